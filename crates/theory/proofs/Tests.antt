@@ -1,0 +1,55 @@
+-- The computed tests on numbers as equations, both ways. Assumes nothing.
+use Prim.Native.Nat.{ℕ, _<_, _≤_}
+use mathlib.Core.Path.{_≡_, refl, sym, ap, _∙_, subst}
+use mathlib.Core.Logic.{_≢_}
+use mathlib.Core.Bool.{Bool, true, false, not, _&&_, false≢true}
+use native.Mathlib.Omega.{arith}
+use lib.Dec.{T, eqb, leb, le→leb, leb→le, nleb→lt, eqb→eq, eqb-refl}
+
+pub T→true : (b : Bool) → T b → b ≡ true
+T→true true t = refl
+T→true false t = absurd t
+
+pub true→T : (b : Bool) → b ≡ true → T b
+true→T true e = tt
+true→T false e = absurd (false≢true e)
+
+pub leb-true : (m n : ℕ) → m ≤ n → leb m n ≡ true
+leb-true m n h = T→true (leb m n) (le→leb m n h)
+
+pub le-of-leb : (m n : ℕ) → leb m n ≡ true → m ≤ n
+le-of-leb m n e = leb→le m n (true→T (leb m n) e)
+
+pub leb-false : (m n : ℕ) → n < m → leb m n ≡ false
+leb-false m n h = go (leb m n) refl
+  where
+    go : (b : Bool) → leb m n ≡ b → leb m n ≡ false
+    go true e = absurd (let k = le-of-leb m n e in omega arith)
+    go false e = e
+
+pub lt-of-leb : (m n : ℕ) → leb m n ≡ false → n < m
+lt-of-leb m n e = nleb→lt m n (true→T (not (leb m n)) (ap not e))
+
+pub eqb-true : (m n : ℕ) → m ≡ n → eqb m n ≡ true
+eqb-true m n e = subst (λ (k : ℕ). eqb m k ≡ true) e (T→true (eqb m m) (eqb-refl m))
+
+pub eq-of-eqb : (m n : ℕ) → eqb m n ≡ true → m ≡ n
+eq-of-eqb m n e = eqb→eq m n (true→T (eqb m n) e)
+
+pub eqb-false : (m n : ℕ) → m ≢ n → eqb m n ≡ false
+eqb-false m n h = go (eqb m n) refl
+  where
+    go : (b : Bool) → eqb m n ≡ b → eqb m n ≡ false
+    go true e = absurd (h (eq-of-eqb m n e))
+    go false e = e
+
+pub ne-of-eqb : (m n : ℕ) → eqb m n ≡ false → m ≢ n
+ne-of-eqb m n e p = false≢true (sym e ∙ eqb-true m n p)
+
+pub and-left : (a b : Bool) → T (a && b) → T a
+and-left true b t = tt
+and-left false b t = t
+
+pub and-right : (a b : Bool) → T (a && b) → T b
+and-right true b t = t
+and-right false b t = absurd t
