@@ -1,7 +1,7 @@
--- What is read from bytes that are not refused is as it must be; so the engines agree on it, with nothing assumed. Assumes nothing.
+-- What is read from bytes that are not refused is well formed; so the engines agree on it.
 use Prim.Native.Nat.{ℕ, zero, suc, _+_, _-_, _<_, _≤_}
 use mathlib.Core.Path.{_≡_, refl, sym, ap, _∙_, subst}
-use mathlib.Core.Logic.{_≢_, _⊎_, inl, inr}
+use mathlib.Core.Logic.{_≢_, inl, inr}
 use mathlib.Core.Bool.{Bool, true, false, _||_, _&&_}
 use mathlib.Core.List.{List, [], _∷_}
 use native.Mathlib.Omega.{arith}
@@ -17,6 +17,7 @@ use Rattle.theory.specs.Words.{Shaped}
 use Rattle.theory.specs.Translation.{builtins, tree, rules}
 use Rattle.theory.specs.Turns.{rewriter}
 use Rattle.theory.specs.Bytes.{TermRecord, constantRecord, succRecord, ifRecord, variableRecord, raiseRecord, handleRecord, callRecord, recordParts, recordWords, firstTerms, laterTerms, nthTerm, termFrom, termsFrom, NextRecord, noneLeft, cutShort, nextIs, nextRecord, Result, refused, good, refuse, ifGood, Declared, nthArity, orRefuse4, termRecord, Where, onLeft, onRight, inQuestion, allowed, ceiling, Side, addRecord, readTermRecord, readSide, RuleAt, patOf, patsOf, varsOf, Book, addLast, orRefuse, readRule, readTopRecord, readRecords, refuseOverlaps, defsOf, funsOf, emptyBook, readProgram, programOf, readQuestion, ruleCount}
+use Rattle.theory.specs.Encoding.{Callable, OverDeclared, AllOverDeclared}
 use Rattle.theory.proofs.Tests.{and-left, and-right, leb-true, leb-false, true→T, ne-of-eqb, eq-of-eqb}
 use Rattle.theory.proofs.RootsHold.{elem-upto}
 use Rattle.theory.proofs.Shape.{ShapedO, narrowDefs, narrowDefs-of, narrowFuns, tree-shaped, rewriting-keeps-shape}
@@ -32,46 +33,28 @@ pick-ok : {A : Type 0} (Q : A → Type 0) (b : Bool) (x y : Result A) → Ok Q x
 pick-ok Q true x y h k = h
 pick-ok Q false x y h k = k
 
-choose-ok : {A : Type 0} (Q : A → Type 0) (b : Bool) (x y : Unit {0} → Result A) → (T b → Ok Q (x tt)) → Ok Q (y tt) → Ok Q (choose b x y)
+pub choose-ok : {A : Type 0} (Q : A → Type 0) (b : Bool) (x y : Unit {0} → Result A) → (T b → Ok Q (x tt)) → Ok Q (y tt) → Ok Q (choose b x y)
 choose-ok Q true x y h k = h tt
 choose-ok Q false x y h k = k
 
-within-ok : {A : Type 0} (Q : A → Type 0) (b : Bool) (n p : ℕ) (x : Unit {0} → Result A) → (T b → Ok Q (x tt)) → Ok Q (orRefuse b n p x)
+pub within-ok : {A : Type 0} (Q : A → Type 0) (b : Bool) (n p : ℕ) (x : Unit {0} → Result A) → (T b → Ok Q (x tt)) → Ok Q (orRefuse b n p x)
 within-ok Q true n p x h = h tt
 within-ok Q false n p x h = tt
 
-also-ok : {A B : Type 0} (Q : A → Type 0) (R : B → Type 0) (r : Result A) (f : A → Result B) → Ok Q r → ((a : A) → Q a → Ok R (f a)) → Ok R (ifGood r f)
+pub also-ok : {A B : Type 0} (Q : A → Type 0) (R : B → Type 0) (r : Result A) (f : A → Result B) → Ok Q r → ((a : A) → Q a → Ok R (f a)) → Ok R (ifGood r f)
 also-ok Q R (refused x) f h k = tt
 also-ok Q R (good a) f h k = k a h
 
--- a term over what is declared; variables are 0 to 7
+-- what the records of a term give: a term over what is declared
 module _ (D : Declared) where
-  abbrev pub CallOk : ℕ → ℕ → Type 0
-  CallOk k n =
-      ((k ≤ 5) × (n ≡ nthFun builtinFuns k .arity)) ⊎ ((b : ℕ) × (k ≡ 16 + b) × (b < length (D .arities)) × (n ≡ nthArity (D .arities) b))
-
-  abbrev mutual
-    pub OverDeclared : Term → Type 0
-    OverDeclared (const b) = Unit {0}
-    OverDeclared (succ t) = OverDeclared t
-    OverDeclared (tvar x) = x < 8
-    OverDeclared (raise e) = e < D .exceptions
-    OverDeclared (handle t e h) = OverDeclared t × (e < D .exceptions) × OverDeclared h
-    OverDeclared (cond t a b) = OverDeclared t × OverDeclared a × OverDeclared b
-    OverDeclared (call k ts) = CallOk k (many ts) × AllOverDeclared ts
-
-    pub AllOverDeclared : Terms → Type 0
-    AllOverDeclared tnil = Unit {0}
-    AllOverDeclared (tcons t ts) = OverDeclared t × AllOverDeclared ts
-
-  abbrev TokOk : TermRecord → Type 0
+  abbrev pub TokOk : TermRecord → Type 0
   TokOk (constantRecord b) = Unit {0}
   TokOk succRecord = Unit {0}
   TokOk ifRecord = Unit {0}
-  TokOk (variableRecord x) = x < 8
+  TokOk (variableRecord x) = x ≤ 7
   TokOk (raiseRecord e) = e < D .exceptions
   TokOk (handleRecord e) = e < D .exceptions
-  TokOk (callRecord k n) = CallOk k n
+  TokOk (callRecord k n) = Callable D k n
 
   orFour-ok : (b : Bool) (k : TermRecord) (p : ℕ) → (T b → TokOk k) → Ok TokOk (orRefuse4 b k p)
   orFour-ok true k p h = h tt
@@ -80,7 +63,7 @@ module _ (D : Declared) where
   tok-ok : (p k b : ℕ) → Ok TokOk (termRecord D p k b)
   tok-ok p k b =
       pick-ok TokOk (eqb k 0x10) _ _ tt (pick-ok TokOk (eqb k 0x11) _ _ tt (pick-ok TokOk (eqb k 0x12) _ _ tt (pick-ok TokOk (eqb k 0x13) _ _ tt
-      (pick-ok TokOk (eqb k 0x14) _ _ (orFour-ok (leb b 7) (variableRecord b) p (λ h. let l = leb→le b 7 h in omega arith))
+      (pick-ok TokOk (eqb k 0x14) _ _ (orFour-ok (leb b 7) (variableRecord b) p (λ h. leb→le b 7 h))
       (pick-ok TokOk (eqb k 0x15) _ _ (orFour-ok (ltb b (D .exceptions)) (raiseRecord b) p (λ h. ltb→lt b (D .exceptions) h))
       (pick-ok TokOk (eqb k 0x16) _ _ (orFour-ok (ltb b (D .exceptions)) (handleRecord b) p (λ h. ltb→lt b (D .exceptions) h))
       (pick-ok TokOk (eqb k 0x17) _ _ tt
@@ -88,17 +71,17 @@ module _ (D : Declared) where
       (pick-ok TokOk (eqb k 0x19) _ _ (orFour-ok (ltb b (length (D .arities))) (callRecord (16 + b) (nthArity (D .arities) b)) p (λ h. inr (b, refl, ltb→lt b (length (D .arities)) h, refl))) tt)))))))))
 
   -- the records of a side: as many as make the terms that are due
-  abbrev Balanced : ℕ → List TermRecord → Type 0
+  abbrev pub Balanced : ℕ → List TermRecord → Type 0
   Balanced zero [] = Unit {0}
   Balanced zero (k ∷ ks) = ⊥
   Balanced (suc n) [] = ⊥
   Balanced (suc n) (k ∷ ks) = Balanced (recordParts k + n) ks
 
-  abbrev AllTok : List TermRecord → Type 0
+  abbrev pub AllTok : List TermRecord → Type 0
   AllTok [] = Unit {0}
   AllTok (k ∷ ks) = TokOk k × AllTok ks
 
-  abbrev SideOk : ℕ → Side → Type 0
+  abbrev pub SideOk : ℕ → Side → Type 0
   SideOk due s = Balanced due (s .records) × AllTok (s .records)
 
   onNext-ok : (go : Where → ℕ → ℕ → ℕ → List ℕ → Result Side) (w : Where) (due count p : ℕ) (x : NextRecord)
@@ -116,7 +99,7 @@ module _ (D : Declared) where
       any (refused x) = tt
       any (good a) = tt
 
-  side-ok : (fuel : ℕ) (w : Where) (due count p : ℕ) (bs : List ℕ) → Ok (SideOk due) (readSide D fuel w due count p bs)
+  pub side-ok : (fuel : ℕ) (w : Where) (due count p : ℕ) (bs : List ℕ) → Ok (SideOk due) (readSide D fuel w due count p bs)
   side-ok zero w zero count p bs = (tt, tt)
   side-ok zero w (suc due) count p bs = tt
   side-ok (suc fuel) w zero count p bs = (tt, tt)
@@ -128,42 +111,42 @@ module _ (D : Declared) where
   many-others (suc a) n tnil e = absurd (omega (arith, e))
   many-others (suc a) n (tcons t ts) e = many-others a n ts (omega (arith, e))
 
-  many-first : (a n : ℕ) (ts : Terms) → many ts ≡ a + n → many (firstTerms a ts) ≡ a
+  pub many-first : (a n : ℕ) (ts : Terms) → many ts ≡ a + n → many (firstTerms a ts) ≡ a
   many-first zero n ts e = refl
   many-first (suc a) n tnil e = absurd (omega (arith, e))
   many-first (suc a) n (tcons t ts) e = ap suc (many-first a n ts (omega (arith, e)))
 
-  build-many : (ks : List TermRecord) (n : ℕ) → Balanced n ks → many (termsFrom ks) ≡ n
+  pub build-many : (ks : List TermRecord) (n : ℕ) → Balanced n ks → many (termsFrom ks) ≡ n
   build-many [] zero h = refl
   build-many [] (suc n) h = absurd h
   build-many (k ∷ ks) zero h = absurd h
   build-many (k ∷ ks) (suc n) h = ap suc (many-others (recordParts k) n (termsFrom ks) (build-many ks (recordParts k + n) h))
 
-  first-ok : (a : ℕ) (ts : Terms) → AllOverDeclared ts → AllOverDeclared (firstTerms a ts)
+  first-ok : (a : ℕ) (ts : Terms) → AllOverDeclared D ts → AllOverDeclared D (firstTerms a ts)
   first-ok zero ts h = tt
   first-ok (suc a) tnil h = tt
   first-ok (suc a) (tcons t ts) h = (h .0, first-ok a ts (h .1))
 
-  others-ok : (a : ℕ) (ts : Terms) → AllOverDeclared ts → AllOverDeclared (laterTerms a ts)
+  others-ok : (a : ℕ) (ts : Terms) → AllOverDeclared D ts → AllOverDeclared D (laterTerms a ts)
   others-ok zero ts h = h
   others-ok (suc a) tnil h = tt
   others-ok (suc a) (tcons t ts) h = others-ok a ts (h .1)
 
-  term-ok : (ts : Terms) (i : ℕ) → AllOverDeclared ts → OverDeclared (nthTerm ts i)
+  term-ok : (ts : Terms) (i : ℕ) → AllOverDeclared D ts → OverDeclared D (nthTerm ts i)
   term-ok tnil i h = tt
   term-ok (tcons t ts) zero h = h .0
   term-ok (tcons t ts) (suc i) h = term-ok ts i (h .1)
 
-  make-ok : (k : TermRecord) (n : ℕ) (ts : Terms) → TokOk k → many ts ≡ recordParts k + n → AllOverDeclared ts → OverDeclared (termFrom k ts)
+  make-ok : (k : TermRecord) (n : ℕ) (ts : Terms) → TokOk k → many ts ≡ recordParts k + n → AllOverDeclared D ts → OverDeclared D (termFrom k ts)
   make-ok (constantRecord b) n ts h e hs = tt
   make-ok succRecord n ts h e hs = term-ok ts 0 hs
   make-ok ifRecord n ts h e hs = (term-ok ts 0 hs, term-ok ts 1 hs, term-ok ts 2 hs)
   make-ok (variableRecord x) n ts h e hs = h
   make-ok (raiseRecord x) n ts h e hs = h
   make-ok (handleRecord x) n ts h e hs = (term-ok ts 0 hs, h, term-ok ts 1 hs)
-  make-ok (callRecord k m) n ts h e hs = (subst (CallOk k) (sym (many-first m n ts e)) h, first-ok m ts hs)
+  make-ok (callRecord k m) n ts h e hs = (subst (Callable D k) (sym (many-first m n ts e)) h, first-ok m ts hs)
 
-  build-ok : (ks : List TermRecord) (n : ℕ) → Balanced n ks → AllTok ks → AllOverDeclared (termsFrom ks)
+  pub build-ok : (ks : List TermRecord) (n : ℕ) → Balanced n ks → AllTok ks → AllOverDeclared D (termsFrom ks)
   build-ok [] n h a = tt
   build-ok (k ∷ ks) zero h a = absurd h
   build-ok (k ∷ ks) (suc n) h a =
@@ -258,7 +241,7 @@ module _ (D : Declared) where
   pat-ok : (t : Term) → OverDeclared D t → NarrowPat (patOf t)
   pat-ok (const b) w = tt
   pat-ok (succ t) w = pat-ok t w
-  pat-ok (tvar x) w = w
+  pat-ok (tvar x) w = omega (arith, w)
   pat-ok (raise e) w = tt
   pat-ok (handle t e h) w = tt
   pat-ok (cond t a b) w = tt
@@ -410,7 +393,7 @@ module _ (s : Book) (h : BookOk s) where
   fun-high b =
       ap (λ (x : Bool). pick x (nthFun builtinFuns (16 + b)) (nthFun fs (16 + b - 16))) (leb-false (suc (16 + b)) 16 (omega arith)) ∙ ap (nthFun fs) (omega arith)
 
-  call-known : (k n : ℕ) → CallOk D k n → Known P k × (n ≡ P .fun k .arity)
+  call-known : (k n : ℕ) → Callable D k n → Known P k × (n ≡ P .fun k .arity)
   call-known k n (inl l) =
       (or-left (elem k builtins) (elem k (P .own)) (elem-upto k 0 6 (omega arith) (let x = l .0 in omega (arith, x))), l .1 ∙ ap (λ (f : Fun). f .arity) (sym (fun-low k (l .0))))
   call-known k n (inr r) =
@@ -464,7 +447,7 @@ module _ (s : Book) (h : BookOk s) where
     narrow-right : (t : Term) → OverDeclared (s .decls) t → Narrow t
     narrow-right (const b) w = tt
     narrow-right (succ t) w = narrow-right t w
-    narrow-right (tvar x) w = w
+    narrow-right (tvar x) w = omega (arith, w)
     narrow-right (raise e) w = tt
     narrow-right (handle t e k) w = (narrow-right t (w .0), narrow-right k (w .2))
     narrow-right (cond t a b) w = (narrow-right t (w .0), narrow-right a (w .1), narrow-right b (w .2))
@@ -505,7 +488,7 @@ module _ (s : Book) (h : BookOk s) where
       both false = nth-narrow 0 (s .decls .arities) (λ i. ap (nthArity (s .decls .arities)) (omega arith)) (k - 16)
 
 -- what holds of a thing that was read
-ok-of : {A : Type 0} (Q : A → Type 0) (r : Result A) (a : A) → Ok Q r → r ≡ good a → Q a
+pub ok-of : {A : Type 0} (Q : A → Type 0) (r : Result A) (a : A) → Ok Q r → r ≡ good a → Q a
 ok-of Q r a h e = subst (Ok Q) e h
 
 -- DEMAND 3, from the bytes: for every program and question that are not refused.

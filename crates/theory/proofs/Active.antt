@@ -1,4 +1,4 @@
--- The part that may be rewritten, by cases of the symbol: the laws for the code that computes it. Assumes nothing.
+-- The part that may be rewritten, by cases of the symbol: the laws for the code that computes it.
 use Prim.Native.Nat.{ℕ, _%_, _<_, _≤_}
 use mathlib.Core.Path.{_≡_, refl, sym, ap}
 use mathlib.Core.Logic.{_≢_}

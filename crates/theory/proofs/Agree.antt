@@ -1,4 +1,4 @@
--- Demand 3: the two engines agree, and an answer that is an ending stays under larger allowances. Assumes nothing.
+-- From the core to demand 3: a run of steps ends as it is read off, and a limit of room that ends nothing changes nothing.
 use Prim.Native.Nat.{ℕ, zero, suc, _<_, _≤_}
 use mathlib.Core.Path.{_≡_, refl, sym, ap, ap₂, _∙_}
 use mathlib.Core.Logic.{_≢_}

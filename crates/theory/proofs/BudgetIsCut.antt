@@ -1,5 +1,4 @@
--- The evaluator as document 01 puts it in words: it is handed the steps that are left, each charge is paid before what follows it is
--- entered, and a charge past what is left ends at once. It answers as `evaluator` does. Assumes nothing.
+-- The paying evaluator of Budget answers as the cost evaluator of Cost does, cut at the step allowance.
 use Prim.Native.Nat.{ℕ, zero, suc, _+_, _-_, _<_, _≤_}
 use mathlib.Core.Path.{_≡_, refl, sym, ap, _∙_, fun-ext}
 use mathlib.Core.Bool.{Bool, true, false}

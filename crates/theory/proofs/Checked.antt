@@ -1,4 +1,4 @@
--- What a program must be, as a computed test over its functions. Assumes nothing.
+-- What a program must be, as a computed test over its functions.
 use Prim.Native.Nat.{ℕ, zero, suc, _≤_}
 use mathlib.Core.Bool.{Bool, true, _||_, _&&_}
 use mathlib.Core.List.{List, [], _∷_}

@@ -1,4 +1,4 @@
--- Demand 3. Assumes nothing.
+-- Demand 3 on programs and terms: both engines agree, and larger allowances change no ending.
 use Prim.Native.Nat.{ℕ, _≤_}
 use mathlib.Core.Path.{_≡_, refl, ap, _∙_}
 use mathlib.Core.Logic.{_≢_}

@@ -1,4 +1,4 @@
--- Refusals on both sides of some of document 01's limits, and the order of 4 and 5, as examples of the definitions. Assumes nothing.
+-- Refusals on both sides of some of document 01's limits, and the order of 4 and 5, as examples of the definitions.
 use mathlib.Core.Path.{_≡_, refl}
 use mathlib.Core.List.{[], _∷_}
 use Rattle.theory.specs.Bytes.{Result, refused, good, refuse, readProgram}

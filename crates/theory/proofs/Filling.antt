@@ -1,4 +1,4 @@
--- Filling
+-- The words of a right side with its variables replaced are the words of the tree with them replaced.
 use Prim.Native.Nat.{ℕ, _+_, _-_}
 use mathlib.Core.Path.{_≡_, refl, sym, ap, ap₂, _∙_}
 use mathlib.Core.Bool.{Bool}

@@ -1,4 +1,4 @@
--- More levels change no ending but `deep`. Assumes nothing.
+-- More levels change no ending but `tooDeep`.
 use Prim.Native.Nat.{ℕ, zero, suc, _+_, _≤_}
 use mathlib.Core.Path.{_≡_, refl, sym, ap, subst}
 use mathlib.Core.Bool.{Bool, true, false}

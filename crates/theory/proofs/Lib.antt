@@ -1,24 +1,38 @@
+-- Laws and theorems over the definitions, by subject.
+-- numbers, trees and words
 pub mod Tests
-pub mod Reach
-pub mod Roots
-pub mod RootsHold
-pub mod Levels
-pub mod Sound
-pub mod Agree
-pub mod BudgetIsCut
-pub mod OverlapMeaning
+pub mod Active
 pub mod Readability
 pub mod Filling
 pub mod Shape
 pub mod Place
-pub mod Active
-pub mod Checked
-pub mod Accepted
+-- what the rules do at a root, and steps in a row
+pub mod Reach
+pub mod Roots
+pub mod RootsHold
+pub mod OverlapMeaning
+pub mod Separate
+-- the paper's own definitions
 pub mod PaperEvaluation
 pub mod PaperRewriting
 pub mod PaperTranslation
-pub mod Separate
+-- the two engines
+pub mod BudgetIsCut
+pub mod Levels
+pub mod Sound
+pub mod Agree
 pub mod Demand3
+-- bytes
+pub mod Checked
+pub mod Accepted
+pub mod RecordsOfTerms
+pub mod SidesRead
+pub mod EnoughFuel
+pub mod AcceptedExactly
+pub mod RefusalTen
+pub mod AcceptedProper
+-- the public calls
+pub mod PublicCalls
+pub mod Demand2
 pub mod Sums
 pub mod Examples
-pub mod PublicCalls

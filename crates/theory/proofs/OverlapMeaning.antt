@@ -1,4 +1,4 @@
--- Rules that overlap at the root: the computed tests, and what they mean. Assumes nothing.
+-- What the overlap tests mean: no tree fits two rules that do not clash, and some list of values fits two left sides exactly where they overlap.
 use Prim.Native.Nat.{ℕ}
 use mathlib.Core.Path.{_≡_, refl, sym, ap, _∙_, subst}
 use mathlib.Core.Logic.{_↔_}

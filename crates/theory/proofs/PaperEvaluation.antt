@@ -1,5 +1,5 @@
--- The evaluator of Eval computes the paper's `ev`: what it answers is the paper's outcome, every outcome of the paper is answered from
--- some level on, the paper gives a term at most one outcome, and none exactly where every allowance of levels is too small. Assumes nothing.
+-- The evaluator of Cost computes the paper's `ev`: what it answers is the paper's outcome, every outcome of the paper is answered from
+-- some level on, the paper gives a term at most one outcome, and none exactly where every allowance of levels is too small.
 use Prim.Native.Nat.{ℕ, zero, suc, _+_, _≤_}
 use mathlib.Core.Path.{_≡_, refl, sym, ap, _∙_, subst, fun-ext}
 use mathlib.Core.Logic.{_↔_, _≢_, _⊎_, inl, inr}

@@ -1,4 +1,4 @@
--- The rewriter's `step` is document 004's context-sensitive innermost rewriting, and there is at most one such step. Assumes nothing.
+-- The rewriter's `step` is document 004's context-sensitive innermost rewriting, and there is at most one such step.
 use Prim.Native.Nat.{ℕ, zero, suc, _-_, _/_, _%_, _≤_}
 use mathlib.Core.Path.{_≡_, refl, sym, ap, ap₂, _∙_, subst}
 use mathlib.Core.Logic.{_↔_, _⊎_, inl, inr, ⊎-elim}
@@ -203,7 +203,7 @@ alone-of : (r : Rule) (rs : List Rule) → ApartRule r rs → T (alone (r .lhs) 
 alone-of r [] h = tt
 alone-of r (q ∷ rs) h = subst (λ (b : Bool). T (not b && alone (r .lhs) rs)) (sym (h .0)) (alone-of r rs (h .1))
 
-apart-of : (rs : List Rule) → ProperRules rs → T (apart rs)
+pub apart-of : (rs : List Rule) → ProperRules rs → T (apart rs)
 apart-of [] h = tt
 apart-of (r ∷ rs) h = subst (λ (b : Bool). T (b && apart rs)) (sym (T→true (alone (r .lhs) rs) (alone-of r rs (h .1)))) (apart-of rs (h .2))
 

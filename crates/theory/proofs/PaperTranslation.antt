@@ -1,5 +1,5 @@
--- The lists of Translate hold exactly the rules of definition 4.1: the standing list its sets, a program's own list its sets, both together
--- all of them and nothing else. Assumes nothing.
+-- The lists of Translation hold exactly the rules of definition 4.1: the standing list its sets, a program's own list its sets, both together
+-- all of them and nothing else.
 use Prim.Native.Nat.{ℕ, zero, suc, _+_, _-_, _<_, _≤_}
 use mathlib.Core.Path.{_≡_, refl, sym, ap, _∙_, subst}
 use mathlib.Core.Logic.{_≢_, _↔_, _⊎_, inl, inr, ⊎-elim}

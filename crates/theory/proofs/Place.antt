@@ -1,5 +1,5 @@
 -- Where a step happens among the words: the words before it stay, the new words stand in the middle, the rest follows. And the way down
--- that finds the place: at each place of the path, see whether a rule fits, and keep the deepest. Assumes nothing.
+-- that finds the place: at each place of the path, see whether a rule fits, and keep the deepest.
 use Prim.Native.Nat.{ℕ, zero, suc, _+_}
 use mathlib.Core.Path.{_≡_, refl, sym, ap, ap₂, _∙_}
 use mathlib.Core.List.{List, [], _∷_, _++_, append-assoc, append-nil}

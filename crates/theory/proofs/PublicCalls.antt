@@ -1,5 +1,5 @@
 -- Demand 3 over the answers of the public calls; that no larger allowance changes an ending; and that the first buffer shows the n-th term
--- for every step allowance n. Assumes nothing.
+-- for every step allowance n.
 use Prim.Native.Nat.{ℕ, zero, suc, _≤_}
 use mathlib.Core.Path.{_≡_, refl, sym, ap, _∙_, subst}
 use mathlib.Core.Logic.{_≢_}

@@ -1,4 +1,4 @@
--- Steps in a row, and steps inside a tree: a part that may be rewritten takes its steps where it stands. Assumes nothing.
+-- Steps in a row, and steps inside a tree: a part that may be rewritten takes its steps where it stands.
 use Prim.Native.Nat.{ℕ, zero, suc, _+_}
 use mathlib.Core.Path.{_≡_, refl, sym, ap, _∙_, subst}
 use mathlib.Core.Option.{Option, none, some}

@@ -1,5 +1,4 @@
--- Trees as words, root first, and words as trees. A list of words is read from its end: each word takes as many of the trees behind it
--- as its symbol has parts. Assumes nothing.
+-- Every list of words is the words of its trees, and the words of a tree are read as that tree: unique readability.
 use Prim.Native.Nat.{ℕ, zero, suc, _+_, _-_, _<_, _≤_}
 use mathlib.Core.Path.{_≡_, refl, sym, ap, ap₂, _∙_}
 use mathlib.Core.Bool.{Bool, true, false, false≢true}

@@ -1,4 +1,4 @@
--- Roots
+-- What the rules of a program do at the root of a tree: all that the agreement of the two engines needs to know of them.
 use Prim.Native.Nat.{ℕ, suc, _<_}
 use mathlib.Core.Path.{_≡_}
 use mathlib.Core.Logic.{_≢_}

@@ -1,4 +1,4 @@
--- The rules of a program, in their order, do at a root what Laws says. Assumes nothing.
+-- The rules of a program, in their order, do at a root what Roots says.
 use Prim.Native.Nat.{ℕ, zero, suc, _+_, _<_, _≤_}
 use mathlib.Core.Path.{_≡_, refl, sym, ap, ap₂, _∙_, fun-ext}
 use mathlib.Core.Logic.{_≢_}

@@ -1,5 +1,5 @@
 -- The rules of a program are as definition 2.4 of document 004 asks: no left side is a variable or has one twice, no right side has a
--- variable that the left has not, and no two rules overlap, the program's own against the standing ones included. Assumes nothing.
+-- variable that the left has not, and no two rules overlap, the program's own against the standing ones included.
 use Prim.Native.Nat.{ℕ, zero, suc, _+_, _-_, _<_, _≤_}
 use mathlib.Core.Path.{_≡_, refl, sym, ap, ap₂, _∙_, subst}
 use mathlib.Core.Logic.{_≢_, _⊎_, inl, inr}
@@ -19,11 +19,11 @@ use Rattle.theory.proofs.RootsHold.{elem-upto, headBelow, below}
 use Rattle.theory.proofs.PaperTranslation.{in-upto}
 
 -- THE TEST on a list of rules
-abbrev distinct : List ℕ → Bool
+abbrev pub distinct : List ℕ → Bool
 distinct [] = true
 distinct (x ∷ xs) = not (elem x xs) && distinct xs
 
-abbrev allIn : List ℕ → List ℕ → Bool
+abbrev pub allIn : List ℕ → List ℕ → Bool
 allIn [] ys = true
 allIn (x ∷ xs) ys = elem x ys && allIn xs ys
 
@@ -39,15 +39,15 @@ properRules [] = true
 properRules (r ∷ rs) = properRule r && (alone (r .lhs) rs && properRules rs)
 
 -- and what it means
-is-false : (b : Bool) → T (not b) → b ≡ false
+pub is-false : (b : Bool) → T (not b) → b ≡ false
 is-false true h = absurd h
 is-false false h = refl
 
-distinct-of : (xs : List ℕ) → T (distinct xs) → Distinct xs
+pub distinct-of : (xs : List ℕ) → T (distinct xs) → Distinct xs
 distinct-of [] h = tt
 distinct-of (x ∷ xs) h = (is-false (elem x xs) (and-left (not (elem x xs)) (distinct xs) h), distinct-of xs (and-right (not (elem x xs)) (distinct xs) h))
 
-allIn-of : (xs ys : List ℕ) → T (allIn xs ys) → AllIn xs ys
+pub allIn-of : (xs ys : List ℕ) → T (allIn xs ys) → AllIn xs ys
 allIn-of [] ys h = tt
 allIn-of (x ∷ xs) ys h = (T→true (elem x ys) (and-left (elem x ys) (allIn xs ys) h), allIn-of xs ys (and-right (elem x ys) (allIn xs ys) h))
 

@@ -1,4 +1,4 @@
--- Rewriting keeps the shape: each symbol has its parts, so the words of a term stay the words of one tree. Assumes nothing.
+-- Rewriting keeps the shape: each symbol has its parts, so the words of a term stay the words of one tree.
 use Prim.Native.Nat.{ℕ, zero, suc, _+_, _-_, _/_, _<_, _≤_}
 use mathlib.Core.Path.{_≡_, refl, sym, ap, _∙_}
 use mathlib.Core.Bool.{Bool, true, false, not, _&&_}

@@ -1,4 +1,4 @@
--- The evaluator's endings and steps are the rewriter's. Assumes nothing.
+-- The evaluator's endings and steps are the rewriter's.
 use Prim.Native.Nat.{ℕ, zero, suc, _+_, _%_, _<_}
 use mathlib.Core.Path.{_≡_, refl, sym, ap, _∙_, subst}
 use mathlib.Core.Bool.{Bool, true, false, _||_}

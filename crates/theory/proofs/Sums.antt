@@ -1,4 +1,4 @@
--- Document 01's starred sums: one statement over one table, for both calls, from the bytes; and g(0), too deep and out of steps to the step. Assumes nothing.
+-- Document 01's starred sums: one statement over one table, for both calls, from the bytes; and g(0), too deep and out of steps to the step.
 use mathlib.Core.Path.{_≡_, refl}
 use lib.ListN.{replicate}
 use Rattle.theory.specs.Endings.{tooDeep, says, is, outOfSteps}

@@ -1,4 +1,4 @@
--- The computed tests on numbers as equations, both ways. Assumes nothing.
+-- The computed tests on numbers as equations, both ways.
 use Prim.Native.Nat.{ℕ, _<_, _≤_}
 use mathlib.Core.Path.{_≡_, refl, sym, ap, _∙_, subst}
 use mathlib.Core.Logic.{_≢_}

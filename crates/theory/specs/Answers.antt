@@ -1,5 +1,5 @@
 -- What the two public calls answer for every program, question, allowances and lent slices: the refusals in their order, or one engine's
--- answer; and what each lent slice holds afterwards. Document 01, "Refusal numbers and their order" and "The rewriter's turn". Assumes nothing.
+-- answer; and what each lent slice holds afterwards. Document 01, "Refusal numbers and their order" and "The rewriter's turn".
 use Prim.Native.Nat.{ℕ}
 use mathlib.Core.Bool.{Bool, _&&_}
 use mathlib.Core.List.{List, []}

@@ -1,4 +1,5 @@
--- Budget
+-- The evaluator as document 01 puts it in words: it is handed the steps that are left, each charge is paid before what follows it is
+-- entered, and a charge past what is left ends at once.
 use Prim.Native.Nat.{ℕ, zero, suc, _+_, _-_}
 use mathlib.Core.List.{List, [], _∷_}
 use mathlib.Core.Option.{Option, none, some}

@@ -1,4 +1,4 @@
--- What a lent slice holds after words are written into it. A slice keeps its length: what would pass its end is dropped. Assumes nothing.
+-- What a lent slice holds after words are written into it. A slice keeps its length: what would pass its end is dropped.
 use Prim.Native.Nat.{ℕ, zero, suc, _-_}
 use mathlib.Core.List.{List, [], _∷_, _++_}
 use lib.ListN.{length, take, drop, replicate}

@@ -1,4 +1,4 @@
--- Document 01's starred sums, as one statement over one table; and the built-in functions. Assumes nothing.
+-- The built-in functions of document 01 (+, *, not, <=, <, =), and a program made from its declared functions with them.
 use Prim.Native.Nat.{ℕ, zero, suc, _-_}
 use mathlib.Core.List.{List, [], _∷_}
 use lib.Dec.{ltb}

@@ -1,5 +1,5 @@
 -- Rule programs and questions as bytes: what is refused, by which number and at which place, and what is read where nothing is.
--- Document 01, "The bytes of a rule program" and "Refusal numbers and their order". Assumes nothing.
+-- Document 01, "The bytes of a rule program" and "Refusal numbers and their order".
 use Prim.Native.Nat.{ℕ, zero, suc, _+_}
 use mathlib.Core.Bool.{Bool, true, false, _||_, _&&_}
 use mathlib.Core.List.{List, [], _∷_, _++_}

@@ -1,6 +1,6 @@
 -- Definition 4.1 of document 004 as the paper prints it: sets of rules, set by set, under the paper's names. To be held against the paper;
--- that the lists of Translate are these sets is shown in Definition41Laws. Assumes nothing.
--- From Translate come only the symbols (`aux f i` is f_i, `vars 0 n` is x_1, …, x_n), terms and patterns as trees, and l ⇒ r for a rule.
+-- that the lists of Translation are these sets is shown in proofs/PaperTranslation.
+-- From Translation come only the symbols (`aux f i` is f_i, `variables 0 n` is x_1, …, x_n), terms and patterns as trees, and l ⇒ r for a rule.
 -- Variables are numbered 0, 1, 2 in the order in which they first appear on the left (document 01): y of guard(tt, y) is variable 0.
 use Prim.Native.Nat.{ℕ, suc, _-_, _<_, _≤_}
 use mathlib.Core.Path.{_≡_}

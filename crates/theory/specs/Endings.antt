@@ -1,4 +1,4 @@
--- Endings
+-- What an engine may answer: value, uncaught exception or stuck; too deep, out of steps or too big; and the steps counted.
 use Prim.Native.Nat.{ℕ}
 use Rattle.theory.specs.Syntax.{Val}
 

@@ -1,5 +1,5 @@
 -- Definitions 3.2, 3.3 and 3.4 of document 004 as it states them, a constructor for each of its clauses: no levels, no steps, no order
--- among rules. EvaluationLaws holds the evaluator of Eval against them. Assumes nothing.
+-- among rules. proofs/PaperEvaluation holds the evaluator of Cost against them.
 use Prim.Native.Nat.{ℕ}
 use mathlib.Core.Path.{_≡_}
 use mathlib.Core.Logic.{_≢_}

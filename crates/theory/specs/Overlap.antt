@@ -1,4 +1,4 @@
--- Overlap
+-- Rules that overlap at the root: left sides with a common instance, and patterns that some list of values fits both.
 use mathlib.Core.Path.{_≡_}
 use mathlib.Core.Bool.{Bool, true, false, not, _&&_}
 use mathlib.Core.List.{List, [], _∷_}

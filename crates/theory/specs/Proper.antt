@@ -1,5 +1,5 @@
 -- What definitions 2.4 and 3.1 of document 004 ask of rules: no variable twice on the left, no variable on the right that is not on the
--- left, no two rules for the same arguments. Assumes nothing.
+-- left, no two rules for the same arguments.
 use Prim.Native.Nat.{ℕ}
 use mathlib.Core.Path.{_≡_}
 use mathlib.Core.Bool.{true, false}

@@ -1,5 +1,5 @@
 -- Context-sensitive innermost rewriting as document 004 defines it (definitions 2.2 to 2.4), with the context of its definition 4.1, to be
--- held against the paper clause by clause. Definitions only: RewritingLaws shows that `step` of Tree is this. Assumes nothing.
+-- held against the paper clause by clause. Definitions only: proofs/PaperRewriting shows that `step` of Tree is this.
 use Prim.Native.Nat.{ℕ, zero, suc, _≤_}
 use mathlib.Core.Path.{_≡_}
 use mathlib.Core.Bool.{false}

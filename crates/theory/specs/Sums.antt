@@ -1,4 +1,4 @@
--- Document 01's starred sums as one table, in bytes: each question to figure 2's program, and what both calls reply. Assumes nothing.
+-- Document 01's starred sums as one table, in bytes: each question to figure 2's program, and what both calls reply.
 use Prim.Native.Nat.{ℕ, zero, suc}
 use mathlib.Core.List.{List, [], _∷_}
 use Rattle.theory.specs.Syntax.{zeroB, Val, base, up}

@@ -1,4 +1,4 @@
--- Programs of ML/ex (document 004, definition 3.1): terms, values, patterns, rules, functions. Assumes nothing.
+-- Programs of ML/ex (document 004, definition 3.1): terms, values, patterns, rules, functions.
 use Prim.Native.Nat.{ℕ, suc}
 use mathlib.Core.Path.{_≡_}
 use mathlib.Core.Logic.{_⊎_}

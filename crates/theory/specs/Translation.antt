@@ -1,4 +1,4 @@
--- The translation of a program to rules (document 004, definition 4.1), in document 01's order. Assumes nothing.
+-- The translation of a program to rules (document 004, definition 4.1), in document 01's order.
 use Prim.Native.Nat.{ℕ, zero, suc, _+_, _*_}
 use mathlib.Core.List.{List, [], _∷_, _++_}
 use lib.Dec.{eqb}

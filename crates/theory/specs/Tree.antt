@@ -1,5 +1,5 @@
 -- Trees of symbols and how they are rewritten: context-sensitive rewriting (document 004, definition 2.4) at the deepest place of the
--- one path that document 01 allows. A symbol is document 01's word. Assumes nothing.
+-- one path that document 01 allows. A symbol is document 01's word.
 use Prim.Native.Nat.{ℕ, zero, suc, _+_, _%_}
 use mathlib.Core.Bool.{_||_}
 use mathlib.Core.List.{List, [], _∷_}

@@ -1,4 +1,5 @@
--- What each engine answers under its allowances. Assumes nothing.
+-- The rewriter's turns (document 01, "The rewriter's turn"): is the term finished, are the steps used up, is the next term too big, else step;
+-- and the ending read off a term on which no rule fits.
 use Prim.Native.Nat.{ℕ, zero, suc, _-_}
 use mathlib.Core.Option.{Option, none, some}
 use lib.Dec.{eqb, leb}

@@ -1,4 +1,4 @@
--- What the rules of a program do at the root of a tree: all that the agreement of the two engines needs to know of them. Assumes nothing.
+-- Terms and programs that use only what is there: declared exceptions, known functions with as many arguments as they take, variables 0 to 7.
 use Prim.Native.Nat.{ℕ, _<_, _≤_, _-_, _/_}
 use mathlib.Core.Path.{_≡_}
 use mathlib.Core.Bool.{_||_}

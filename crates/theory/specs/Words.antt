@@ -1,4 +1,4 @@
--- Words
+-- Trees as root-first words, and words read back as trees; rules as they are stored (document 01, "Words of the rewrite system").
 use Prim.Native.Nat.{ℕ, zero, suc, _+_, _-_, _<_}
 use mathlib.Core.Path.{_≡_}
 use mathlib.Core.Bool.{Bool, false}

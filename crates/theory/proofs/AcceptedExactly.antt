@@ -1,0 +1,540 @@
+-- ACCEPTED EXACTLY: bytes are accepted where they are the encoding of a valid program, or of a valid question, and only there.
+use Prim.Native.Nat.{ℕ, zero, suc, _+_, _<_, _≤_}
+use mathlib.Core.Path.{_≡_, refl, sym, ap, ap₂, _∙_, subst}
+use mathlib.Core.Logic.{_↔_}
+use mathlib.Core.Bool.{Bool, true, false, _&&_, _||_}
+use mathlib.Core.List.{List, [], _∷_, _++_, append-assoc, append-nil}
+use native.Mathlib.Omega.{arith}
+use lib.Dec.{eqb, leb, ltb, leb→le, ltb→lt, eqb→eq}
+use lib.ListN.{length, length-append}
+use Rattle.theory.specs.Syntax.{Term, Pat, choose}
+use Rattle.theory.specs.Overlap.{overlaps}
+use Rattle.theory.specs.Proper.{patsVars, termVars}
+use Rattle.theory.specs.Bytes.{nthTerm, termsFrom, NextRecord, noneLeft, cutShort, nextIs, nextRecord, Result, good, refuse, ifGood, Declared, nthArity, onLeft, onRight, inQuestion, Side, readSide, RuleAt, patsOf, varsOf, Book, ruleCount, addLast, orRefuse, readRule, readTopRecord, readRecords, overlapsEarlier, refuseOverlaps, emptyBook, readProgram, readQuestion}
+use Rattle.theory.specs.Encoding.{encode, encodePats, encodeRule, encodeRules, encodeExns, encodeFuns, encodeProgram, Each, ValidQuestion, ValidRule, NotOverlapping, NoneOverlap, OpenedFrom, stageOf, Valid}
+use Rattle.theory.proofs.Tests.{leb-true, eqb-true, eq-of-eqb, and-left, and-right}
+use Rattle.theory.proofs.Accepted.{Ok, choose-ok, within-ok, also-ok, ok-of}
+use Rattle.theory.proofs.RecordsOfTerms.{flats, flats-build, termsOf, pats-of}
+use Rattle.theory.proofs.SidesRead.{next-is, of-kind, TermReads, LeftReads, RightReads, left-reads, left-back, right-reads, right-back, asked-reads, asked-back, built, all-in, seen-same, ok-map, or-first, or-second, onto, IsNext}
+
+none-left : (l : List ℕ) → length l ≡ 0 → l ≡ []
+none-left [] e = refl
+none-left (x ∷ l) e = absurd (omega (arith, e))
+
+-- A QUESTION
+question-reads : (D : Declared) (q : List ℕ) → Ok (λ t. (q ≡ encode t) × ValidQuestion D t) (readQuestion D q)
+unfolding readQuestion
+question-reads D q =
+    also-ok (λ s. TermReads D inQuestion 0 0 q s × (termVars (nthTerm (termsFrom (s .records)) 0) ≡ [])) (λ t. (q ≡ encode t) × ValidQuestion D t) (readSide D (suc (length q)) inQuestion 1 0 0 q) _
+    (asked-reads D (suc (length q)) 0 q)
+    (λ s h. choose-ok (λ t. (q ≡ encode t) × ValidQuestion D t) (eqb (length (s .rest)) 0) _ _
+    (λ e. (let t = nthTerm (termsFrom (s .records)) 0 in
+    let n = h .0 .room (omega arith) in (
+      h .0 .spelt ∙ ap (encode t ++_) (none-left (s .rest) (eqb→eq (length (s .rest)) 0 e)) ∙ append-nil (encode t),
+      record { over = h .0 .over; no-variables = h .1; words = omega (arith, n) },
+    ))) tt)
+
+question-back : (D : Declared) (t : Term) → ValidQuestion D t → readQuestion D (encode t) ≡ good t
+unfolding readQuestion
+question-back D t v =
+    ap (λ (r : Result Side). ifGood r (λ s. choose (eqb (length (s .rest)) 0) (λ u. good (nthTerm (termsFrom (s .records)) 0)) (λ u. refuse 11 (s .from))))
+    (ap (readSide D (suc (length (encode t))) inQuestion 1 0 0) (sym (append-nil (encode t))) ∙ asked-back D t (v .over) (v .no-variables) (v .words) (suc (length (encode t))) 0 [] (omega arith))
+    ∙ ap good (built D t)
+
+pub question-accepted-exactly : (D : Declared) (q : List ℕ) (t : Term) → (readQuestion D q ≡ good t) ↔ ((q ≡ encode t) × ValidQuestion D t)
+question-accepted-exactly D q t =
+    (ok-of (λ t. (q ≡ encode t) × ValidQuestion D t) (readQuestion D q) t (question-reads D q), λ h. ap (readQuestion D) (h .0) ∙ question-back D t (h .1))
+
+-- RULES THAT DO NOT OVERLAP: the reader asks it of each rule and those before it, `NoneOverlap` of each rule and those behind it
+not-both : (m n : ℕ) (b : Bool) → (eqb m n && b) ≡ false → m ≡ n → b ≡ false
+not-both m n b h e = ap (λ (x : Bool). x && b) (sym (eqb-true m n e)) ∙ h
+
+both-not : (m n : ℕ) (b : Bool) → (m ≡ n → b ≡ false) → (eqb m n && b) ≡ false
+both-not m n b h = go (eqb m n) refl
+  where
+    go : (x : Bool) → eqb m n ≡ x → (x && b) ≡ false
+    go true e = h (eq-of-eqb m n e)
+    go false e = refl
+
+pub apart-of : (r : RuleAt) (qs : List RuleAt) → overlapsEarlier r qs ≡ false → Each (λ q. NotOverlapping q r) qs
+apart-of r [] h = tt
+apart-of r (q ∷ qs) h =
+    let a = eqb (q .owner) (r .owner) && overlaps (q .sides .left) (r .sides .left) in
+    (not-both (q .owner) (r .owner) (overlaps (q .sides .left) (r .sides .left)) (or-first a (overlapsEarlier r qs) h), apart-of r qs (or-second a (overlapsEarlier r qs) h))
+
+of-apart : (r : RuleAt) (qs : List RuleAt) → Each (λ q. NotOverlapping q r) qs → overlapsEarlier r qs ≡ false
+of-apart r [] h = refl
+of-apart r (q ∷ qs) h =
+    ap (λ (x : Bool). x || overlapsEarlier r qs) (both-not (q .owner) (r .owner) (overlaps (q .sides .left) (r .sides .left)) (h .0)) ∙ of-apart r qs (h .1)
+
+pub each-snoc : {A : Type 0} (P : A → Type 0) (xs : List A) (x : A) → Each P xs → P x → Each P (addLast xs x)
+each-snoc P [] x h k = (k, tt)
+each-snoc P (y ∷ xs) x h k = (h .0, each-snoc P xs x (h .1) k)
+
+each-before : {A : Type 0} (P : A → Type 0) (xs : List A) (x : A) → Each P (addLast xs x) → Each P xs
+each-before P [] x h = tt
+each-before P (y ∷ xs) x h = (h .0, each-before P xs x (h .1))
+
+each-last : {A : Type 0} (P : A → Type 0) (xs : List A) (x : A) → Each P (addLast xs x) → P x
+each-last P [] x h = h .0
+each-last P (y ∷ xs) x h = each-last P xs x (h .1)
+
+each-both : {A : Type 0} (P Q R : A → Type 0) (xs : List A) → ((x : A) → P x → Q x → R x) → Each P xs → Each Q xs → Each R xs
+each-both P Q R [] f h k = tt
+each-both P Q R (x ∷ xs) f h k = (f x (h .0) (k .0), each-both P Q R xs f (h .1) (k .1))
+
+each-map : {A : Type 0} (P Q : A → Type 0) (xs : List A) → ((x : A) → P x → Q x) → Each P xs → Each Q xs
+each-map P Q [] f h = tt
+each-map P Q (x ∷ xs) f h = (f x (h .0), each-map P Q xs f (h .1))
+
+abbrev pub Clear : List RuleAt → List RuleAt → Type 0
+Clear before rs = Each (λ q. Each (NotOverlapping q) rs) before × NoneOverlap rs
+
+pub overlap-reads : (before rs : List RuleAt) → Ok (λ u. Clear before rs) (refuseOverlaps before rs)
+overlap-reads before [] = (none before, tt)
+  where
+    none : (qs : List RuleAt) → Each (λ q. Unit {0}) qs
+    none [] = tt
+    none (q ∷ qs) = (tt, none qs)
+overlap-reads before (r ∷ rs) = go (overlapsEarlier r before) refl (overlap-reads (addLast before r) rs)
+  where
+    go : (b : Bool) → overlapsEarlier r before ≡ b → Ok (λ u. Clear (addLast before r) rs) (refuseOverlaps (addLast before r) rs)
+        → Ok (λ u. Clear before (r ∷ rs)) (choose b (λ u. refuse 10 (r .opened)) (λ u. refuseOverlaps (addLast before r) rs))
+    go true e h = tt
+    go false e h =
+        ok-map (λ u. Clear (addLast before r) rs) (λ u. Clear before (r ∷ rs)) (refuseOverlaps (addLast before r) rs)
+        (λ u c. (
+          each-both (λ q. NotOverlapping q r) (λ q. Each (NotOverlapping q) rs) (λ q. Each (NotOverlapping q) (r ∷ rs)) before (λ q x y. (x, y)) (apart-of r before e) (each-before (λ q. Each (NotOverlapping q) rs) before r (c .0)),
+          (each-last (λ q. Each (NotOverlapping q) rs) before r (c .0), c .1),
+        )) h
+
+pub clear-now : (before : List RuleAt) (r : RuleAt) (rs : List RuleAt) → Clear before (r ∷ rs) → overlapsEarlier r before ≡ false
+clear-now before r rs h = of-apart r before (each-map (λ q. Each (NotOverlapping q) (r ∷ rs)) (λ q. NotOverlapping q r) before (λ q x. x .0) (h .0))
+
+pub clear-next : (before : List RuleAt) (r : RuleAt) (rs : List RuleAt) → Clear before (r ∷ rs) → Clear (addLast before r) rs
+clear-next before r rs h =
+    (each-snoc (λ q. Each (NotOverlapping q) rs) before r (each-map (λ q. Each (NotOverlapping q) (r ∷ rs)) (λ q. Each (NotOverlapping q) rs) before (λ q x. x .1) (h .0)) (h .1 .0), h .1 .1)
+
+overlap-back : (before rs : List RuleAt) → Clear before rs → refuseOverlaps before rs ≡ good tt
+overlap-back before [] h = refl
+overlap-back before (r ∷ rs) h =
+    ap (λ (b : Bool). choose b (λ u. refuse 10 (r .opened)) (λ u. refuseOverlaps (addLast before r) rs)) (clear-now before r rs h)
+    ∙ overlap-back (addLast before r) rs (clear-next before r rs h)
+
+-- WHAT THE RECORDS ADD to what was read before them
+abbrev pub withExn : Book → Book
+withExn s = record { stage = 0; decls = record { exceptions = suc (s .decls .exceptions); arities = s .decls .arities }; rulesAt = s .rulesAt }
+
+abbrev pub withFun : Book → ℕ → Book
+withFun s c = record { stage = 1; decls = record { exceptions = s .decls .exceptions; arities = addLast (s .decls .arities) c }; rulesAt = s .rulesAt }
+
+abbrev pub withRule : Book → RuleAt → Book
+withRule s r = record { stage = 2; decls = s .decls; rulesAt = addLast (s .rulesAt) r }
+
+abbrev ending : List RuleAt → List ℕ
+ending rs = encodeRules rs ++ (0x04 ∷ [])
+
+abbrev stageFrom : ℕ → List ℕ → List RuleAt → ℕ
+stageFrom i ns (r ∷ rs) = 2
+stageFrom i (a ∷ ns) [] = 1
+stageFrom i [] [] = i
+
+stage-fun : (i c : ℕ) (ns : List ℕ) (rs : List RuleAt) → stageFrom 1 ns rs ≡ stageFrom i (c ∷ ns) rs
+stage-fun i c ns (r ∷ rs) = refl
+stage-fun i c (a ∷ ns) [] = refl
+stage-fun i c [] [] = refl
+
+stage-rule : (rs : List RuleAt) → stageFrom 2 [] rs ≡ 2
+stage-rule (r ∷ rs) = refl
+stage-rule [] = refl
+
+stage-start : (ns : List ℕ) (rs : List RuleAt) → stageFrom 0 ns rs ≡ stageOf ns rs
+stage-start ns (r ∷ rs) = refl
+stage-start (a ∷ ns) [] = refl
+stage-start [] [] = refl
+
+count-length : (rs : List RuleAt) → ruleCount rs ≡ length rs
+count-length [] = refl
+count-length (r ∷ rs) = ap suc (count-length rs)
+
+record Grown (s : Book) (p : ℕ) (bs : List ℕ) (s′ : Book) : Type 0 where
+  exns : ℕ
+  funs : List ℕ
+  rules : List RuleAt
+  all-exns : s′ .decls .exceptions ≡ s .decls .exceptions + exns
+  all-funs : s′ .decls .arities ≡ s .decls .arities ++ funs
+  all-rules : s′ .rulesAt ≡ s .rulesAt ++ rules
+  no-exns : 1 ≤ s .stage → exns ≡ 0
+  no-funs : 2 ≤ s .stage → funs ≡ []
+  few : s .decls .exceptions ≤ 16 → s .decls .exceptions + exns ≤ 16
+  functions : length (s .decls .arities) ≤ 32 → length (s .decls .arities) + length funs ≤ 32
+  small : Each (λ a. a ≤ 4) funs
+  number : length (s .rulesAt) ≤ 64 → length (s .rulesAt) + length rules ≤ 64
+  valid : Each (ValidRule (s′ .decls)) rules
+  opened : OpenedFrom (p + (length (encodeExns (s .decls .exceptions) exns) + length (encodeFuns (length (s .decls .arities)) funs))) rules
+  stage : s′ .stage ≡ stageFrom (s .stage) funs rules
+  bytes : bs ≡ encodeExns (s .decls .exceptions) exns ++ (encodeFuns (length (s .decls .arities)) funs ++ ending rules)
+
+opened-at : (p q : ℕ) (rs : List RuleAt) → p ≡ q → OpenedFrom p rs → OpenedFrom q rs
+opened-at p q rs e h = subst (λ (i : ℕ). OpenedFrom i rs) e h
+
+grown-exn : (s : Book) (p b n : ℕ) (bs rest : List ℕ) (s′ : Book) → (bs ≡ 0x01 ∷ b ∷ rest) × (n ≡ 2) → s .stage ≡ 0 → s .decls .exceptions < 16 → b ≡ s .decls .exceptions
+    → Grown (withExn s) (p + n) rest s′ → Grown s p bs s′
+grown-exn s p b n bs rest s′ i z few e g =
+    let e0 = s .decls .exceptions in
+    let two = i .1 in
+    record {
+      exns = suc (g .exns);
+      funs = g .funs;
+      rules = g .rules;
+      all-exns = let a = g .all-exns in omega (arith, a);
+      all-funs = g .all-funs;
+      all-rules = g .all-rules;
+      no-exns = λ l. absurd (omega (arith, l, z));
+      no-funs = λ l. absurd (omega (arith, l, z));
+      few = λ l. (let a = g .few few in omega (arith, a));
+      functions = g .functions;
+      small = g .small;
+      number = g .number;
+      valid = g .valid;
+      opened = opened-at (p + n + (length (encodeExns (suc e0) (g .exns)) + length (encodeFuns (length (s .decls .arities)) (g .funs)))) _ (g .rules) (omega (arith, two)) (g .opened);
+      stage = g .stage ∙ ap (λ (j : ℕ). stageFrom j (g .funs) (g .rules)) (sym z);
+      bytes = i .0 ∙ ap₂ (λ (j : ℕ) (l : List ℕ). 0x01 ∷ j ∷ l) e (g .bytes);
+    }
+
+grown-fun : (s : Book) (p b c n : ℕ) (bs rest : List ℕ) (s′ : Book) → (bs ≡ 0x02 ∷ b ∷ c ∷ rest) × (n ≡ 3) → s .stage ≤ 1 → length (s .decls .arities) < 32
+    → b ≡ length (s .decls .arities) → c ≤ 4 → Grown (withFun s c) (p + n) rest s′ → Grown s p bs s′
+grown-fun s p b c n bs rest s′ i z few e low g =
+    let ns = s .decls .arities in
+    let e0 = s .decls .exceptions in
+    let three = i .1 in
+    let none = g .no-exns (omega arith) in
+    let m : length (addLast ns c) ≡ suc (length ns) = (let a = length-append ns (c ∷ []) in omega (arith, a)) in
+    let x : length (encodeExns e0 (g .exns)) ≡ 0 = ap (λ (j : ℕ). length (encodeExns e0 j)) none in
+    let y : length (encodeFuns (length (addLast ns c)) (g .funs)) ≡ length (encodeFuns (suc (length ns)) (g .funs)) = ap (λ (j : ℕ). length (encodeFuns j (g .funs))) m in
+    record {
+      exns = 0;
+      funs = c ∷ g .funs;
+      rules = g .rules;
+      all-exns = let a = g .all-exns in omega (arith, a, none);
+      all-funs = g .all-funs ∙ append-assoc ns (c ∷ []) (g .funs);
+      all-rules = g .all-rules;
+      no-exns = λ l. refl;
+      no-funs = λ l. absurd (omega (arith, l, z));
+      few = λ l. omega (arith, l);
+      functions = λ l. (let a = g .functions (omega (arith, m, few)) in omega (arith, a, m));
+      small = (low, g .small);
+      number = g .number;
+      valid = g .valid;
+      opened = opened-at (p + n + (length (encodeExns e0 (g .exns)) + length (encodeFuns (length (addLast ns c)) (g .funs)))) _ (g .rules) (omega (arith, three, x, y)) (g .opened);
+      stage = g .stage ∙ stage-fun (s .stage) c (g .funs) (g .rules);
+      bytes =
+          i .0
+          ∙ ap₂ (λ (j : ℕ) (l : List ℕ). 0x02 ∷ j ∷ c ∷ l) e
+          (g .bytes
+          ∙ ap (λ (j : ℕ). encodeExns e0 j ++ (encodeFuns (length (addLast ns c)) (g .funs) ++ ending (g .rules))) none
+          ∙ ap (λ (j : ℕ). encodeFuns j (g .funs) ++ ending (g .rules)) m);
+    }
+
+grown-rule : (s : Book) (p n : ℕ) (bs rest : List ℕ) (r : RuleAt) (q : ℕ) (behind : List ℕ) (s′ : Book) → (bs ≡ 0x03 ∷ r .owner ∷ rest) × (n ≡ 2) → length (s .rulesAt) < 64
+    → r .opened ≡ p → ValidRule (s .decls) r → q ≡ p + n + length (encodePats (r .sides .left)) + length (encode (r .sides .right))
+    → rest ≡ encodePats (r .sides .left) ++ (encode (r .sides .right) ++ behind) → Grown (withRule s r) q behind s′ → Grown s p bs s′
+grown-rule s p n bs rest r q behind s′ i few o v e w g =
+    let ns = s .decls .arities in
+    let e0 = s .decls .exceptions in
+    let L = encodePats (r .sides .left) in
+    let R = encode (r .sides .right) in
+    let two = i .1 in
+    let noE = g .no-exns (omega arith) in
+    let noF = g .no-funs (omega arith) in
+    let x : length (encodeExns e0 (g .exns)) ≡ 0 = ap (λ (j : ℕ). length (encodeExns e0 j)) noE in
+    let y : length (encodeFuns (length ns) (g .funs)) ≡ 0 = ap (λ (l : List ℕ). length (encodeFuns (length ns) l)) noF in
+    let d1 : s′ .decls .exceptions ≡ e0 = (let a = g .all-exns in omega (arith, a, noE)) in
+    let d2 : s′ .decls .arities ≡ ns = g .all-funs ∙ ap (ns ++_) noF ∙ append-nil ns in
+    let d : s′ .decls ≡ s .decls = ap₂ (λ (j : ℕ) (l : List ℕ). record { exceptions = j; arities = l }) d1 d2 in
+    let m = length-append (s .rulesAt) (r ∷ []) in
+    let k = length-append L R in
+    let tail : behind ≡ ending (g .rules) =
+    g .bytes ∙ ap₂ (λ (j : ℕ) (l : List ℕ). encodeExns e0 j ++ (encodeFuns (length ns) l ++ ending (g .rules))) noE noF in
+    record {
+      exns = 0;
+      funs = [];
+      rules = r ∷ g .rules;
+      all-exns = omega (arith, d1);
+      all-funs = d2 ∙ sym (append-nil ns);
+      all-rules = g .all-rules ∙ append-assoc (s .rulesAt) (r ∷ []) (g .rules);
+      no-exns = λ l. refl;
+      no-funs = λ l. refl;
+      few = λ l. omega (arith, l);
+      functions = λ l. omega (arith, l);
+      small = tt;
+      number = λ l. (let a = g .number (omega (arith, m, few)) in omega (arith, a, m));
+      valid = (subst (λ (D : Declared). ValidRule D r) (sym d) v, g .valid);
+      opened = (omega (arith, o), opened-at (q + (length (encodeExns e0 (g .exns)) + length (encodeFuns (length ns) (g .funs)))) _ (g .rules) (omega (arith, e, x, y, two, k)) (g .opened));
+      stage = g .stage ∙ ap (λ (l : List ℕ). stageFrom 2 l (g .rules)) noF ∙ stage-rule (g .rules);
+      bytes =
+          i .0
+          ∙ ap (λ (l : List ℕ). 0x03 ∷ r .owner ∷ l)
+          (w
+          ∙ ap (λ (l : List ℕ). L ++ (R ++ l)) tail
+          ∙ sym (append-assoc L R (ending (g .rules)))
+          ∙ sym (append-assoc (L ++ R) (encodeRules (g .rules)) (0x04 ∷ [])));
+    }
+
+grown-end : (s : Book) (p n : ℕ) (bs rest : List ℕ) → (bs ≡ 0x04 ∷ rest) × (n ≡ 1) → rest ≡ [] → Grown s p bs s
+grown-end s p n bs rest i e =
+    record {
+      exns = 0;
+      funs = [];
+      rules = [];
+      all-exns = omega arith;
+      all-funs = sym (append-nil (s .decls .arities));
+      all-rules = sym (append-nil (s .rulesAt));
+      no-exns = λ l. refl;
+      no-funs = λ l. refl;
+      few = λ l. omega (arith, l);
+      functions = λ l. omega (arith, l);
+      small = tt;
+      number = λ l. omega (arith, l);
+      valid = tt;
+      opened = tt;
+      stage = refl;
+      bytes = i .0 ∙ ap (0x04 ∷_) e;
+    }
+
+abbrev Grows : ℕ → Type 0
+Grows fuel = (s : Book) (p : ℕ) (bs : List ℕ) → Ok (Grown s p bs) (readRecords fuel s p bs)
+
+-- a rule's two sides, and what is behind them
+sides-grow : (fuel : ℕ) (s : Book) (p b n : ℕ) (bs rest : List ℕ) → (bs ≡ 0x03 ∷ b ∷ rest) × (n ≡ 2) → length (s .rulesAt) < 64 → b < length (s .decls .arities) → Grows fuel
+    → Ok (Grown s p bs) (readRule fuel s b p (p + n) rest (λ r q behind. readRecords fuel (withRule s r) q behind))
+sides-grow fuel s p b n bs rest i few low ih =
+    also-ok (LeftReads D a (p + n) rest) (Grown s p bs) (readSide D fuel (onLeft []) a 1 (p + n) rest) _ (left-reads D fuel a (p + n) rest)
+    (λ l hl. also-ok (RightReads D (varsOf (l .seen)) (l .from) (l .rest)) (Grown s p bs) (readSide D fuel (onRight (varsOf (l .seen))) 1 0 (l .from) (l .rest)) _
+    (right-reads D fuel (varsOf (l .seen)) (l .from) (l .rest))
+    (λ r hr. ok-map (Grown (withRule s (made l r)) (r .from) (r .rest)) (Grown s p bs) (readRecords fuel (withRule s (made l r)) (r .from) (r .rest))
+    (λ s′ g. grown-rule s p n bs rest (made l r) (r .from) (r .rest) s′ i few refl (valid l r hl hr)
+    (hr .place ∙ ap (λ (j : ℕ). j + length (encode (nthTerm (termsFrom (r .records)) 0))) (hl .place))
+    (hl .spelt ∙ ap (encodePats (patsOf (termsFrom (l .records))) ++_) (hr .spelt)) g)
+    (ih (withRule s (made l r)) (r .from) (r .rest))))
+  where
+    D : Declared
+    D = s .decls
+
+    a : ℕ
+    a = nthArity (s .decls .arities) b
+
+    made : Side → Side → RuleAt
+    made l r = record { owner = b; opened = p; sides = record { left = patsOf (termsFrom (l .records)); right = nthTerm (termsFrom (r .records)) 0 } }
+
+    valid : (l r : Side) → LeftReads (s .decls) (nthArity (s .decls .arities) b) (p + n) rest l → RightReads (s .decls) (varsOf (l .seen)) (l .from) (l .rest) r
+        → ValidRule (s .decls) (record { owner = b; opened = p; sides = record { left = patsOf (termsFrom (l .records)); right = nthTerm (termsFrom (r .records)) 0 } })
+    valid l r hl hr =
+        record {
+          declared = low;
+          arguments = hl .arguments;
+          left-variables = hl .variables;
+          left-once = hl .once;
+          left-words = hl .words;
+          right-over = hr .over;
+          right-variables = all-in (termVars (nthTerm (termsFrom (r .records)) 0)) (varsOf (l .seen)) (patsVars (patsOf (termsFrom (l .records)))) (hl .seen) (hr .variables);
+          right-words = hr .words;
+        }
+
+top-grows : (fuel : ℕ) → Grows fuel
+top-grows zero s p bs = tt
+top-grows (suc fuel) s p bs = go (nextRecord bs) (next-is bs) (top-grows fuel)
+  where
+    D : Declared
+    D = s .decls
+
+    G : Book → Type 0
+    G = Grown s p bs
+
+    go : (x : NextRecord) → IsNext bs x → Grows fuel → Ok (Grown s p bs) (readTopRecord fuel (readRecords fuel) s p x)
+    go noneLeft i ih = tt
+    go cutShort i ih = tt
+    go (nextIs k b c n rest) i ih =
+        choose-ok G (eqb k 1) _ _
+        (λ k1. within-ok G (eqb (s .stage) 0) 3 p _ (λ z. within-ok G (ltb (D .exceptions) 16) 9 p _ (λ few. within-ok G (eqb b (D .exceptions)) 4 p _
+        (λ e. ok-map (Grown (withExn s) (p + n) rest) G (readRecords fuel (withExn s) (p + n) rest)
+        (λ s′ g. grown-exn s p b n bs rest s′ (of-kind 1 k b c n bs rest k1 i) (eqb→eq (s .stage) 0 z) (ltb→lt (D .exceptions) 16 few) (eqb→eq b (D .exceptions) e) g)
+        (ih (withExn s) (p + n) rest)))))
+        (choose-ok G (eqb k 2) _ _
+        (λ k2. within-ok G (leb (s .stage) 1) 3 p _ (λ z. within-ok G (ltb (length (D .arities)) 32) 9 p _ (λ few. within-ok G (eqb b (length (D .arities)) && leb c 4) 4 p _
+        (λ e. ok-map (Grown (withFun s c) (p + n) rest) G (readRecords fuel (withFun s c) (p + n) rest)
+        (λ s′ g. grown-fun s p b c n bs rest s′ (of-kind 2 k b c n bs rest k2 i) (leb→le (s .stage) 1 z) (ltb→lt (length (D .arities)) 32 few)
+        (eqb→eq b (length (D .arities)) (and-left (eqb b (length (D .arities))) (leb c 4) e)) (leb→le c 4 (and-right (eqb b (length (D .arities))) (leb c 4) e)) g)
+        (ih (withFun s c) (p + n) rest)))))
+        (choose-ok G (eqb k 3) _ _
+        (λ k3. within-ok G (ltb (ruleCount (s .rulesAt)) 64) 9 p _ (λ few. within-ok G (ltb b (length (D .arities))) 4 p _
+        (λ low. sides-grow fuel s p b n bs rest (of-kind 3 k b c n bs rest k3 i) (subst (λ (j : ℕ). j < 64) (count-length (s .rulesAt)) (ltb→lt (ruleCount (s .rulesAt)) 64 few))
+        (ltb→lt b (length (D .arities)) low) ih)))
+        (choose-ok G (eqb k 4) _ _
+        (λ k4. choose-ok G (eqb (length rest) 0) _ _ (λ e. grown-end s p n bs rest (of-kind 4 k b c n bs rest k4 i) (none-left rest (eqb→eq (length rest) 0 e))) tt) tt)))
+
+-- an accepted program is encoded, and valid
+program-reads : (p : List ℕ) → Ok (λ s. (p ≡ encodeProgram s) × Valid s) (readProgram p)
+unfolding readProgram
+program-reads p =
+    choose-ok Q (leb (length p) 8192) _ _
+    (λ l. also-ok (Grown emptyBook 0 p) Q (readRecords (suc (length p)) emptyBook 0 p) _ (top-grows (suc (length p)) emptyBook 0 p)
+    (λ s g. also-ok (λ u. Clear [] (s .rulesAt)) Q (refuseOverlaps [] (s .rulesAt)) _ (overlap-reads [] (s .rulesAt))
+    (λ u c. made s (leb→le (length p) 8192 l) g (c .1)))) tt
+  where
+    Q : Book → Type 0
+    Q s = (p ≡ encodeProgram s) × Valid s
+
+    made : (s : Book) → length p ≤ 8192 → Grown emptyBook 0 p s → NoneOverlap (s .rulesAt) → (p ≡ encodeProgram s) × Valid s
+    made s l g c =
+        let x : g .exns ≡ s .decls .exceptions = (let a = g .all-exns in omega (arith, a)) in
+        let y : g .funs ≡ s .decls .arities = sym (g .all-funs) in
+        let z : g .rules ≡ s .rulesAt = sym (g .all-rules) in
+        let few = g .few (omega arith) in
+        let functions = g .functions (omega arith) in
+        let number = g .number (omega arith) in
+        let m : length (g .funs) ≡ length (s .decls .arities) = ap length y in
+        let n : length (g .rules) ≡ length (s .rulesAt) = ap length z in
+        let e : p ≡ encodeProgram s =
+        g .bytes
+        ∙ ap (λ (j : ℕ). encodeExns 0 j ++ (encodeFuns 0 (g .funs) ++ ending (g .rules))) x
+        ∙ ap₂ (λ (ns : List ℕ) (rs : List RuleAt). encodeExns 0 (s .decls .exceptions) ++ (encodeFuns 0 ns ++ ending rs)) y z in
+        let w : length p ≡ length (encodeProgram s) = ap length e in
+        let u : 0 + (length (encodeExns 0 (g .exns)) + length (encodeFuns 0 (g .funs))) ≡ length (encodeExns 0 (s .decls .exceptions)) + length (encodeFuns 0 (s .decls .arities)) =
+        (let a = ap (λ (j : ℕ). length (encodeExns 0 j)) x in let b = ap (λ (ns : List ℕ). length (encodeFuns 0 ns)) y in omega (arith, a, b)) in (
+          e,
+          record {
+            exceptions = omega (arith, few, x);
+            functions = omega (arith, functions, m);
+            arities = subst (Each (λ a. a ≤ 4)) y (g .small);
+            rules = omega (arith, number, n);
+            each-rule = subst (Each (ValidRule (s .decls))) z (g .valid);
+            none-overlap = c;
+            bytes = omega (arith, l, w);
+            opened = subst (OpenedFrom (length (encodeExns 0 (s .decls .exceptions)) + length (encodeFuns 0 (s .decls .arities)))) z (opened-at _ _ (g .rules) u (g .opened));
+            stage = g .stage ∙ stage-start (g .funs) (g .rules) ∙ ap₂ stageOf y z;
+          },
+        )
+
+-- AND THE OTHER WAY: the records of a valid program are read
+within-true : {A : Type 0} (b : Bool) (n p : ℕ) (go : Unit {0} → Result A) → b ≡ true → orRefuse b n p go ≡ go tt
+within-true b n p go e = ap (λ (x : Bool). orRefuse x n p go) e
+
+and-true : (a b : Bool) → a ≡ true → b ≡ true → (a && b) ≡ true
+and-true a b e f = ap (λ (x : Bool). x && b) e ∙ f
+
+sides-back : (fuel : ℕ) (s : Book) (r : RuleAt) (p : ℕ) (rest : List ℕ) (go : RuleAt → ℕ → List ℕ → Result Book) → ValidRule (s .decls) r
+    → length (encodePats (r .sides .left)) + length (encode (r .sides .right)) ≤ fuel
+    → readRule fuel s (r .owner) (r .opened) p (encodePats (r .sides .left) ++ (encode (r .sides .right) ++ rest)) go
+    ≡ go r (p + length (encodePats (r .sides .left)) + length (encode (r .sides .right))) rest
+sides-back fuel s r p rest go v f =
+    ap (λ (x : Result Side). ifGood x second)
+    (ap (λ (i : ℕ). readSide D fuel (onLeft []) i 1 p (encodePats L ++ (encode R ++ rest))) (sym (v .arguments))
+    ∙ left-back D L (v .left-variables) (v .left-once) (v .left-words) fuel p (encode R ++ rest) (omega (arith, f)))
+    ∙ ap (λ (x : Result Side). ifGood x (third (patsOf (termsFrom (flats (termsOf L))))))
+    (right-back D R seen (v .right-over) (all-in (termVars R) (patsVars L) seen (λ x. sym (seen-same x (patsVars L))) (v .right-variables)) (v .right-words) fuel (p + length (encodePats L)) rest (omega (arith, f)))
+    ∙ ap₂ (λ (ps : List Pat) (t : Term). go (record { owner = r .owner; opened = r .opened; sides = record { left = ps; right = t } }) (p + length (encodePats L) + length (encode R)) rest)
+    (ap patsOf (flats-build (termsOf L)) ∙ pats-of L) (built D R)
+  where
+    D : Declared
+    D = s .decls
+
+    L : List Pat
+    L = r .sides .left
+
+    R : Term
+    R = r .sides .right
+
+    seen : List ℕ
+    seen = onto (patsVars (r .sides .left)) []
+
+    third : List Pat → Side → Result Book
+    third ps x = go (record { owner = r .owner; opened = r .opened; sides = record { left = ps; right = nthTerm (termsFrom (x .records)) 0 } }) (x .from) (x .rest)
+
+    second : Side → Result Book
+    second l = ifGood (readSide (s .decls) fuel (onRight (varsOf (l .seen))) 1 0 (l .from) (l .rest))
+        (λ x. go (record { owner = r .owner; opened = r .opened; sides = record { left = patsOf (termsFrom (l .records)); right = nthTerm (termsFrom (x .records)) 0 } }) (x .from) (x .rest))
+
+rules-back : (rs : List RuleAt) (fuel : ℕ) (s : Book) (p : ℕ) → Each (ValidRule (s .decls)) rs → OpenedFrom p rs → length (s .rulesAt) + length rs ≤ 64 → length (ending rs) ≤ fuel
+    → readRecords fuel s p (ending rs) ≡ good (record { stage = stageFrom (s .stage) [] rs; decls = s .decls; rulesAt = s .rulesAt ++ rs })
+rules-back [] zero s p v o n f = absurd (omega (arith, f))
+rules-back [] (suc fuel) s p v o n f = ap (λ (l : List RuleAt). good (record { stage = s .stage; decls = s .decls; rulesAt = l })) (sym (append-nil (s .rulesAt)))
+rules-back (r ∷ rs) zero s p v o n f = absurd (omega (arith, f))
+rules-back (r ∷ rs) (suc fuel) s p v o n f =
+    let D = s .decls in
+    let L = encodePats (r .sides .left) in
+    let R = encode (r .sides .right) in
+    let go : RuleAt → ℕ → List ℕ → Result Book = λ x q rest. readRecords fuel (withRule s x) q rest in
+    let e : (((L ++ R) ++ encodeRules rs) ++ (0x04 ∷ [])) ≡ L ++ (R ++ ending rs) =
+    append-assoc (L ++ R) (encodeRules rs) (0x04 ∷ []) ∙ append-assoc L R (ending rs) in
+    let a = length-append (L ++ R) (encodeRules rs) in
+    let b = length-append ((L ++ R) ++ encodeRules rs) (0x04 ∷ []) in
+    let c = length-append L R in
+    let d = length-append (encodeRules rs) (0x04 ∷ []) in
+    let h = count-length (s .rulesAt) in
+    let k = length-append (s .rulesAt) (r ∷ []) in
+    let i = o .0 in
+    let q : p + length (encodeRule r) ≡ p + 2 + length L + length R = omega (arith, c) in
+    within-true (ltb (ruleCount (s .rulesAt)) 64) 9 p _ (leb-true (suc (ruleCount (s .rulesAt))) 64 (omega (arith, h, n)))
+    ∙ within-true (ltb (r .owner) (length (D .arities))) 4 p _ (leb-true (suc (r .owner)) (length (D .arities)) (v .0 .declared))
+    ∙ ap₂ (λ (j : ℕ) (l : List ℕ). readRule fuel s (r .owner) j (p + 2) l go) (sym i) e
+    ∙ sides-back fuel s r (p + 2) (ending rs) go (v .0) (omega (arith, a, b, c, f))
+    ∙ rules-back rs fuel (withRule s r) (p + 2 + length L + length R) (v .1) (opened-at (p + length (encodeRule r)) _ rs q (o .1)) (omega (arith, k, n)) (omega (arith, a, b, c, d, f))
+    ∙ ap₂ (λ (j : ℕ) (l : List RuleAt). good (record { stage = j; decls = D; rulesAt = l })) (stage-rule rs) (append-assoc (s .rulesAt) (r ∷ []) rs)
+
+-- functions, with `every` the arities of all of them in the end
+funs-back : (every ns : List ℕ) (rs : List RuleAt) (fuel i e : ℕ) (before : List ℕ) (f p : ℕ) → i ≤ 1 → every ≡ before ++ ns → f ≡ length before → f + length ns ≤ 32
+    → Each (λ a. a ≤ 4) ns → Each (ValidRule (record { exceptions = e; arities = every })) rs → OpenedFrom (p + length (encodeFuns f ns)) rs → length rs ≤ 64
+    → length (encodeFuns f ns ++ ending rs) ≤ fuel
+    → readRecords fuel (record { stage = i; decls = record { exceptions = e; arities = before }; rulesAt = [] }) p (encodeFuns f ns ++ ending rs)
+    ≡ good (record { stage = stageFrom i ns rs; decls = record { exceptions = e; arities = every }; rulesAt = rs })
+funs-back every [] rs fuel i e before f p st all len few low v o n g =
+    let d : every ≡ before = all ∙ append-nil before in
+    ap (λ (l : List ℕ). readRecords fuel (record { stage = i; decls = record { exceptions = e; arities = l }; rulesAt = [] }) p (ending rs)) (sym d)
+    ∙ rules-back rs fuel (record { stage = i; decls = record { exceptions = e; arities = every }; rulesAt = [] }) p v (opened-at (p + 0) p rs (omega arith) o) (omega (arith, n)) g
+funs-back every (a ∷ ns) rs zero i e before f p st all len few low v o n g = absurd (omega (arith, g))
+funs-back every (a ∷ ns) rs (suc fuel) i e before f p st all len few low v o n g =
+    let m = length-append before (a ∷ []) in
+    within-true (leb i 1) 3 p _ (leb-true i 1 st)
+    ∙ within-true (ltb (length before) 32) 9 p _ (leb-true (suc (length before)) 32 (omega (arith, len, few)))
+    ∙ within-true (eqb f (length before) && leb a 4) 4 p _ (and-true (eqb f (length before)) (leb a 4) (eqb-true f (length before) len) (leb-true a 4 (low .0)))
+    ∙ funs-back every ns rs fuel 1 e (addLast before a) (suc f) (p + 3) (omega arith) (all ∙ sym (append-assoc before (a ∷ []) ns)) (omega (arith, m, len)) (omega (arith, few)) (low .1) v
+    (opened-at (p + length (encodeFuns f (a ∷ ns))) (p + 3 + length (encodeFuns (suc f) ns)) rs (omega arith) o) n (omega (arith, g))
+    ∙ ap (λ (j : ℕ). good (record { stage = j; decls = record { exceptions = e; arities = every }; rulesAt = rs })) (stage-fun i a ns rs)
+
+-- exceptions, with `all` their number in the end
+exns-back : (all n : ℕ) (ns : List ℕ) (rs : List RuleAt) (fuel e p : ℕ) → all ≡ e + n → all ≤ 16 → length ns ≤ 32 → Each (λ a. a ≤ 4) ns
+    → Each (ValidRule (record { exceptions = all; arities = ns })) rs → OpenedFrom (p + (length (encodeExns e n) + length (encodeFuns 0 ns))) rs → length rs ≤ 64
+    → length (encodeExns e n ++ (encodeFuns 0 ns ++ ending rs)) ≤ fuel
+    → readRecords fuel (record { stage = 0; decls = record { exceptions = e; arities = [] }; rulesAt = [] }) p (encodeExns e n ++ (encodeFuns 0 ns ++ ending rs))
+    ≡ good (record { stage = stageFrom 0 ns rs; decls = record { exceptions = all; arities = ns }; rulesAt = rs })
+exns-back all zero ns rs fuel e p t few len low v o m g =
+    let d : all ≡ e = omega (arith, t) in
+    ap (λ (j : ℕ). readRecords fuel (record { stage = 0; decls = record { exceptions = j; arities = [] }; rulesAt = [] }) p (encodeFuns 0 ns ++ ending rs)) (sym d)
+    ∙ funs-back ns ns rs fuel 0 all [] 0 p (omega arith) refl refl (omega (arith, len)) low v (opened-at (p + (0 + length (encodeFuns 0 ns))) _ rs (omega arith) o) m g
+exns-back all (suc n) ns rs zero e p t few len low v o m g = absurd (omega (arith, g))
+exns-back all (suc n) ns rs (suc fuel) e p t few len low v o m g =
+    within-true (ltb e 16) 9 p _ (leb-true (suc e) 16 (omega (arith, t, few)))
+    ∙ within-true (eqb e e) 4 p _ (eqb-true e e refl)
+    ∙ exns-back all n ns rs fuel (suc e) (p + 2) (omega (arith, t)) few len low v
+    (opened-at (p + (length (encodeExns e (suc n)) + length (encodeFuns 0 ns))) (p + 2 + (length (encodeExns (suc e) n) + length (encodeFuns 0 ns))) rs (omega arith) o) m (omega (arith, g))
+
+program-back : (s : Book) → Valid s → readProgram (encodeProgram s) ≡ good s
+unfolding readProgram
+program-back s v =
+    ap (λ (b : Bool). choose b (λ u. ifGood (readRecords (suc (length bs)) emptyBook 0 bs) (λ s. ifGood (refuseOverlaps [] (s .rulesAt)) (λ u. good s))) (λ u. refuse 1 0)) (leb-true (length bs) 8192 (v .bytes))
+    ∙ ap (λ (r : Result Book). ifGood r (λ s. ifGood (refuseOverlaps [] (s .rulesAt)) (λ u. good s)))
+    (exns-back (D .exceptions) (D .exceptions) (D .arities) (s .rulesAt) (suc (length bs)) 0 0 (omega arith) (v .exceptions) (v .functions) (v .arities) (v .each-rule)
+    (opened-at (length (encodeExns 0 (D .exceptions)) + length (encodeFuns 0 (D .arities))) _ (s .rulesAt) (omega arith) (v .opened)) (v .rules) (omega arith)
+    ∙ ap (λ (j : ℕ). good (record { stage = j; decls = D; rulesAt = s .rulesAt })) (stage-start (D .arities) (s .rulesAt) ∙ sym (v .stage)))
+    ∙ ap (λ (r : Result (Unit {0})). ifGood r (λ u. good s)) (overlap-back [] (s .rulesAt) (tt, v .none-overlap))
+  where
+    bs : List ℕ
+    bs = encodeProgram s
+
+    D : Declared
+    D = s .decls
+
+-- A PROGRAM
+pub accepted-exactly : (p : List ℕ) (s : Book) → (readProgram p ≡ good s) ↔ ((p ≡ encodeProgram s) × Valid s)
+accepted-exactly p s = (ok-of (λ s. (p ≡ encodeProgram s) × Valid s) (readProgram p) s (program-reads p), λ h. ap readProgram (h .0) ∙ program-back s (h .1))
