@@ -36,3 +36,6 @@ pub mod PublicCalls
 pub mod Demand2
 pub mod Sums
 pub mod Examples
+-- how large things get
+pub mod Bounds
+pub mod Exceptions

@@ -1,0 +1,45 @@
+/* Puffinest: the hosts' door. Link with the archive that `rt staticlib bridge` writes (x86-64).
+ *
+ * Both calls take any bytes at all; the caller need have checked nothing. A report has 7 words:
+ *
+ *   0  refusal number, 0 where nothing is refused
+ *   1  what the refusal is about: 0 nothing, 1 the program, 2 the question
+ *   2  the byte place in that string
+ *   3  ending: 0 refused, 1 value, 2 exception, 3 stuck, 4 out of steps, 5 too deep, 6 too big
+ *   4  amount: k of a value, the exception's number, or s of a stuck ending
+ *   5  base of a value: 0 none, 1 zero, 2 true, 3 false
+ *   6  steps
+ *
+ * A word without meaning is 0. Where report_len is under 7, nothing at all is written, to no slice. */
+#ifndef PUFFINEST_H
+#define PUFFINEST_H
+
+#include <stddef.h>
+#include <stdint.h>
+
+#ifdef __cplusplus
+extern "C" {
+#endif
+
+/* Allowances: steps 0 to 1,000,000; levels 1 to 1,000. */
+void puffinest_evaluate(const uint8_t *program, size_t program_len,
+                        const uint8_t *question, size_t question_len,
+                        uint32_t steps, uint32_t levels,
+                        uint32_t *report, size_t report_len);
+
+/* Allowances: steps 0 to 1,000,000; room 1 to 4,096 words. The own list fills `own` from the start (at most 13,263 words);
+ * `first` ends with the last term that fitted, then zeros up to the room; `second` with zeros up to the room. On a refusal no
+ * word of the three changes. The slices do not overlap each other or the strings. */
+void puffinest_rewrite(const uint8_t *program, size_t program_len,
+                       const uint8_t *question, size_t question_len,
+                       uint32_t steps, uint32_t room,
+                       uint16_t *own, size_t own_len,
+                       uint16_t *first, size_t first_len,
+                       uint16_t *second, size_t second_len,
+                       uint32_t *report, size_t report_len);
+
+#ifdef __cplusplus
+}
+#endif
+
+#endif
