@@ -1,0 +1,14 @@
+-- Steps of the code's loops and calls: Takes, Walk, Pass, Placed, Handed. Laws over trees and programs: the others.
+pub mod Takes
+pub mod Walk
+pub mod Pass
+pub mod Placed
+pub mod Handed
+pub mod Stored
+pub mod Scan
+pub mod Indexed
+pub mod Ranges
+pub mod Match
+pub mod Found
+pub mod Standing
+pub mod Program

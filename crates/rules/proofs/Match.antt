@@ -1,0 +1,255 @@
+-- MATCHING ON WORDS IS MATCHING ON TREES: a left side fits where the theory matches it, and its variables take the words of what the
+-- substitution gives them.
+use mathlib.Core.Path.{_≡_, refl, sym, ap, ap₂, subst, subst₂, _∙_}
+use mathlib.Core.Logic.{_≢_}
+use mathlib.Core.Bool.{Bool, true, false}
+use mathlib.Core.Option.{Option, none, some}
+use mathlib.Core.List.{List, [], _∷_, _++_, append-assoc, append-nil}
+use Prim.Native.Nat.{ℕ, zero, suc, _+_, _-_, _≤_, _<_}
+use native.Mathlib.Nat.{add-zero}
+use native.Mathlib.Omega.{arith}
+use lib.Dec.{eqb}
+use lib.ListN.{length, getD, take, drop, set, replicate, length-set, length-drop}
+use lib.Seq.{getD-set-same, getD-set-other, take-append-seam, drop-append-seam, drop-drop}
+use borrow.Author.Tests.{lt-ltb}
+use Rattle.theory.specs.Syntax.{pick, andThen}
+use Rattle.theory.specs.Tree.{Tree, Trees, var, node, [·], _▹_, Subst, bindTree, noSubst, inst, match, matches, size, sizes, len}
+use Rattle.theory.specs.Words.{words, allWords, isVar, Shaped, Shapeds}
+use Rattle.theory.proofs.Tests.{eq-of-eqb, ne-of-eqb}
+use Rattle.theory.proofs.Readability.{isVar-word, length-words}
+use Rattle.theory.proofs.Filling.{fill, fill-words}
+use Rattle.words.specs.declared.terms.Reach.{Reach}
+use Rattle.words.specs.declared.terms.Reach.the-variants.{End, Short}
+use Rattle.words.specs.Terms.{arityOf}
+use Rattle.words.proofs.Trees.{skip-tree}
+use Rattle.rules.specs.Matching.{takes, reached, fits, noted, binds, wordsFrom, boundTo}
+use Rattle.rules.specs.declared.matching.Bound.{Bound}
+use Rattle.rules.proofs.Takes.{drop-next, isVar-slot, takes-var, takes-same, takes-other}
+
+-- ---- words at a place
+pub past-it : (ws xs ys : List ℕ) (p : ℕ) → drop p ws ≡ xs ++ ys → drop (p + length xs) ws ≡ ys
+past-it ws xs ys p e = sym (drop-drop (length xs) p ws) ∙ ap (drop (length xs)) e ∙ drop-append-seam xs ys
+
+pub past-tree : (ws : List ℕ) (t : Tree) (ys : List ℕ) (p : ℕ) → drop p ws ≡ words t ++ ys → drop (p + size t) ws ≡ ys
+past-tree ws t ys p e = ap (λ (n : ℕ). drop (p + n) ws) (sym (length-words t)) ∙ past-it ws (words t) ys p e
+
+pub record Word-at (ws : List ℕ) (p w : ℕ) (rest : List ℕ) : Type 0 where
+  pub within : p < length ws
+  pub word : getD ws p 0 ≡ w
+  pub behind : drop (p + 1) ws ≡ rest
+
+pub word-at : (ws : List ℕ) (p w : ℕ) (rest : List ℕ) → drop p ws ≡ w ∷ rest → Word-at ws p w rest
+word-at ws p w rest e =
+    let l : length ws - p ≡ suc (length rest) = sym (length-drop p ws) ∙ ap length e in
+    let h : p < length ws = omega arith in
+    let d = drop-next ws p h in
+    record { within = h; word = cc; behind = cc }
+
+pub size-pos : (t : Tree) → 1 ≤ size t
+size-pos (var x) = omega arith
+size-pos (node s ts) = omega arith
+
+zeros : (x : ℕ) → getD {A = ℕ} (replicate 8 0) x 0 ≡ 0
+zeros zero = refl
+zeros (suc zero) = refl
+zeros (suc (suc zero)) = refl
+zeros (suc (suc (suc zero))) = refl
+zeros (suc (suc (suc (suc zero)))) = refl
+zeros (suc (suc (suc (suc (suc zero))))) = refl
+zeros (suc (suc (suc (suc (suc (suc zero)))))) = refl
+zeros (suc (suc (suc (suc (suc (suc (suc zero))))))) = refl
+zeros (suc (suc (suc (suc (suc (suc (suc (suc x)))))))) = refl
+
+abbrev pub matched : Option Subst → Bool
+matched none = false
+matched (some σ) = true
+
+module _ (ks ss : List ℕ) where
+  -- the words that the slots give a variable
+  abbrev slot : List ℕ → List ℕ → ℕ → List ℕ
+  slot S E x = wordsFrom ss (getD S x 0) (getD E x 0)
+
+  -- the slots hold a substitution
+  pub record Holds (S E : List ℕ) (σ : Subst) : Type 0 where
+    pub starts8 : length S ≡ 8
+    pub ends8 : length E ≡ 8
+    pub slots : (x : ℕ) → x < 8 → slot S E x ≡ words (σ x)
+
+  start-holds : Holds (replicate 8 0) (replicate 8 0) noSubst
+  start-holds = record { starts8 = refl; ends8 = refl; slots = λ x h. ap₂ (λ (a e : ℕ). wordsFrom ss a e) (zeros x) (zeros x) }
+
+  -- what is left to do after a part of the left side
+  pub record After (qs ps : List ℕ) (j k : ℕ) (S E : List ℕ) (τ : Subst) : Type 0 where
+    pub starts : List ℕ
+    pub ends : List ℕ
+    pub fit : fits ks ss qs j ≡ fits ks ss ps k
+    pub bind : binds ks ss qs j S E ≡ binds ks ss ps k starts ends
+    pub holds : Holds starts ends τ
+
+  abbrev Outcome : List ℕ → List ℕ → ℕ → ℕ → List ℕ → List ℕ → Option Subst → Type 0
+  Outcome qs ps j k S E none = fits ks ss qs j ≡ false
+  Outcome qs ps j k S E (some τ) = After qs ps j k S E τ
+
+  join : (qs ms ps : List ℕ) (j k l : ℕ) (S E : List ℕ) (τ : Subst) (a : After qs ms j k S E τ) (o : Option Subst) → Outcome ms ps k l (a .starts) (a .ends) o → Outcome qs ps j l S E o
+  join qs ms ps j k l S E τ a none h = a .fit ∙ h
+  join qs ms ps j k l S E τ a (some υ) h = record { starts = h .starts; ends = h .ends; fit = a .fit ∙ h .fit; bind = a .bind ∙ h .bind; holds = h .holds }
+
+  chain : (qs ms ps : List ℕ) (j k l : ℕ) (S E : List ℕ) (o : Option Subst) (f : Subst → Option Subst) → Outcome qs ms j k S E o
+      → ((τ : Subst) (S′ E′ : List ℕ) → Holds S′ E′ τ → Outcome ms ps k l S′ E′ (f τ)) → Outcome qs ps j l S E (andThen o f)
+  chain qs ms ps j k l S E none f h g = h
+  chain qs ms ps j k l S E (some τ) f h g = join qs ms ps j k l S E τ h (f τ) (g τ (h .starts) (h .ends) (h .holds))
+
+  -- a word of the left side that takes something, or nothing
+  module _ (p : ℕ) (ps : List ℕ) (j : ℕ) where
+    fits-on : (e : ℕ) → takes ks ss p j ≡ End e → fits ks ss (p ∷ ps) j ≡ fits ks ss ps e
+    unfolding fits
+    fits-on e q = ap (λ (r : Reach). reached r (fits ks ss ps) false) q
+
+    fits-not : takes ks ss p j ≡ Short → fits ks ss (p ∷ ps) j ≡ false
+    unfolding fits
+    fits-not q = ap (λ (r : Reach). reached r (fits ks ss ps) false) q
+
+    binds-on : (S E : List ℕ) (e : ℕ) → takes ks ss p j ≡ End e → binds ks ss (p ∷ ps) j S E ≡ binds ks ss ps e (noted S p j) (noted E p e)
+    unfolding binds
+    binds-on S E e q = ap (λ (r : Reach). reached r (λ e. binds ks ss ps e (noted S p j) (noted E p e)) (record { starts = S; ends = E })) q
+
+  noted-plain : (S : List ℕ) (p x : ℕ) → isVar p ≡ false → noted S p x ≡ S
+  unfolding noted
+  noted-plain S p x e = ap (λ (b : Bool). pick b (set S (p - 64) x) S) e
+
+  noted-var : (S : List ℕ) (v x : ℕ) → v < 8 → noted S (64 + v) x ≡ set S v x
+  unfolding noted
+  noted-var S v x h =
+      let m : 64 + v - 64 ≡ v = omega arith in
+      ap (λ (b : Bool). pick b (set S (64 + v - 64) x) S) (isVar-word v h) ∙ ap (λ (i : ℕ). set S i x) m
+
+  -- a variable takes a tree
+  module _ (x : ℕ) (hx : x < 8) (t : Tree) (ht : Shaped (arityOf ks) t) (j : ℕ) (rest : List ℕ) (stands : drop j ss ≡ words t ++ rest) where
+    the-part : wordsFrom ss j (j + size t) ≡ words t
+    the-part =
+        let m : j + size t - j ≡ size t = omega arith in
+        ap (λ (b : Bool). pick b (take (j + size t - j) (drop j ss)) (1 ∷ [])) (lt-ltb j (j + size t) (let l = size-pos t in omega arith))
+        ∙ ap₂ (λ (n : ℕ) (l : List ℕ). take n l) (m ∙ sym (length-words t)) stands ∙ take-append-seam (words t) rest
+
+    set-holds : (S E : List ℕ) (σ : Subst) → Holds S E σ → Holds (set S x j) (set E x (j + size t)) (bindTree σ x t)
+    set-holds S E σ h =
+        record {
+          starts8 = simp length-set (h .starts8);
+          ends8 = simp length-set (h .ends8);
+          slots = λ y hy. go y hy (eqb x y) refl;
+        }
+      where
+        go : (y : ℕ) → y < 8 → (b : Bool) → eqb x y ≡ b → slot (set S x j) (set E x (j + size t)) y ≡ words (pick b t (σ y))
+        go y hy true e =
+            let q = eq-of-eqb x y e in
+            let l : x < length S = omega (arith, h .starts8) in
+            let k : x < length E = omega (arith, h .ends8) in
+            ap₂ (λ (a b : ℕ). wordsFrom ss a b) (ap (λ (i : ℕ). getD (set S x j) i 0) (sym q) ∙ getD-set-same S x j 0 l) (ap (λ (i : ℕ). getD (set E x (j + size t)) i 0) (sym q) ∙ getD-set-same E x (j + size t) 0 k)
+            ∙ the-part
+        go y hy false e =
+            let n : y ≢ x = λ q. ne-of-eqb x y e (sym q) in
+            ap₂ (λ (a b : ℕ). wordsFrom ss a b) (getD-set-other S x y j 0 n) (getD-set-other E x y (j + size t) 0 n) ∙ h .slots y hy
+
+    take-var : (ps S E : List ℕ) (σ : Subst) → Holds S E σ → After ((64 + x) ∷ ps) ps j (j + size t) S E (bindTree σ x t)
+    take-var ps S E σ h =
+        let q = takes-var ks ss (64 + x) j (isVar-word x hx) ∙ skip-tree ks ss j t rest ht stands in
+        record {
+          starts = set S x j;
+          ends = set E x (j + size t);
+          fit = fits-on (64 + x) ps j (j + size t) q;
+          bind = binds-on (64 + x) ps j S E (j + size t) q ∙ ap₂ (λ (a b : List ℕ). binds ks ss ps (j + size t) a b) (noted-var S x j hx) (noted-var E x (j + size t) hx);
+          holds = set-holds S E σ h;
+        }
+
+  -- any other word takes itself
+  take-same : (s : ℕ) → isVar s ≡ false → (ps S E : List ℕ) (j : ℕ) (σ : Subst) (rest : List ℕ) → drop j ss ≡ s ∷ rest → Holds S E σ → After (s ∷ ps) ps j (j + 1) S E σ
+  take-same s v ps S E j σ rest stands h =
+      let w = word-at ss j s rest stands in
+      let q = takes-same ks ss s j v (w .within) (sym (w .word)) in
+      record {
+        starts = S;
+        ends = E;
+        fit = fits-on s ps j (j + 1) q;
+        bind = binds-on s ps j S E (j + 1) q ∙ ap₂ (λ (a b : List ℕ). binds ks ss ps (j + 1) a b) (noted-plain S s j v) (noted-plain E s (j + 1) v);
+        holds = h;
+      }
+
+  take-other : (s r : ℕ) → isVar s ≡ false → s ≢ r → (ps : List ℕ) (j : ℕ) (rest : List ℕ) → drop j ss ≡ r ∷ rest → fits ks ss (s ∷ ps) j ≡ false
+  take-other s r v n ps j rest stands =
+      let w = word-at ss j r rest stands in
+      fits-not s ps j (takes-other ks ss s j v (w .within) (λ e. n (e ∙ w .word)))
+
+  not-var : (s y : ℕ) → isVar s ≡ false → y < 8 → s ≢ 64 + y
+  not-var s y v h e = let z : _≡_ {A = Bool} false true = sym v ∙ ap isVar e ∙ isVar-word y h in let k : _≡_ {A = ℕ} 0 1 = cc in omega arith
+
+  mutual
+    match-tree : (l t : Tree) (σ : Subst) (ps rest : List ℕ) (j : ℕ) (S E : List ℕ) → Shaped (arityOf ks) l → Shaped (arityOf ks) t → drop j ss ≡ words t ++ rest → Holds S E σ
+        → Outcome (words l ++ ps) ps j (j + size t) S E (match l t σ)
+    match-tree (var x) t σ ps rest j S E hl ht e h = take-var x hl t ht j rest e ps S E σ h
+    match-tree (node s qs) (var y) σ ps rest j S E hl ht e h = take-other s (64 + y) (hl .0) (not-var s y (hl .0) ht) (allWords qs ++ ps) j rest e
+    match-tree (node s qs) (node r ts) σ ps rest j S E hl ht e h =
+        go (eqb s r) refl
+        (λ q. let f : drop j ss ≡ s ∷ (allWords ts ++ rest) = e ∙ ap (λ (w : ℕ). w ∷ (allWords ts ++ rest)) (sym q) in
+        let m : j + 1 + sizes ts ≡ j + suc (sizes ts) = omega arith in
+        subst (λ (k : ℕ). Outcome (s ∷ (allWords qs ++ ps)) ps j k S E (matches qs ts σ)) m
+        (chain (s ∷ (allWords qs ++ ps)) (allWords qs ++ ps) ps j (j + 1) (j + 1 + sizes ts) S E (some σ) (matches qs ts) (take-same s (hl .0) (allWords qs ++ ps) S E j σ (allWords ts ++ rest) f h)
+        (λ τ S′ E′ h′. match-trees qs ts τ ps rest (j + 1) S′ E′ (hl .2) (ht .2) (hl .1 ∙ ap (arityOf ks) q ∙ sym (ht .1)) (word-at ss j s (allWords ts ++ rest) f .behind) h′)))
+      where
+        go : (b : Bool) → eqb s r ≡ b → (s ≡ r → Outcome (s ∷ (allWords qs ++ ps)) ps j (j + suc (sizes ts)) S E (matches qs ts σ))
+            → Outcome (s ∷ (allWords qs ++ ps)) ps j (j + suc (sizes ts)) S E (pick b (matches qs ts σ) none)
+        go true q on = on (eq-of-eqb s r q)
+        go false q on = take-other s r (hl .0) (ne-of-eqb s r q) (allWords qs ++ ps) j (allWords ts ++ rest) e
+
+    match-trees : (qs ts : Trees) (σ : Subst) (ps rest : List ℕ) (j : ℕ) (S E : List ℕ) → Shapeds (arityOf ks) qs → Shapeds (arityOf ks) ts → len qs ≡ len ts → drop j ss ≡ allWords ts ++ rest → Holds S E σ
+        → Outcome (allWords qs ++ ps) ps j (j + sizes ts) S E (matches qs ts σ)
+    match-trees [·] [·] σ ps rest j S E hq ht n e h =
+        record { starts = S; ends = E; fit = ap (fits ks ss ps) (sym (add-zero j)); bind = ap (λ (k : ℕ). binds ks ss ps k S E) (sym (add-zero j)); holds = h }
+    match-trees [·] (t ▹ ts) σ ps rest j S E hq ht n e h = absurd (omega arith)
+    match-trees (q ▹ qs) [·] σ ps rest j S E hq ht n e h = absurd (omega arith)
+    match-trees (q ▹ qs) (t ▹ ts) σ ps rest j S E hq ht n e h =
+        let f = e ∙ append-assoc (words t) (allWords ts) rest in
+        let m : j + size t + sizes ts ≡ j + (size t + sizes ts) = omega arith in
+        let n′ : len qs ≡ len ts = omega arith in
+        subst₂ (λ (l : List ℕ) (k : ℕ). Outcome l ps j k S E (andThen (match q t σ) (matches qs ts))) (sym (append-assoc (words q) (allWords qs) ps)) m
+        (chain (words q ++ (allWords qs ++ ps)) (allWords qs ++ ps) ps j (j + size t) (j + size t + sizes ts) S E (match q t σ) (matches qs ts)
+        (match-tree q t σ (allWords qs ++ ps) (allWords ts ++ rest) j S E (hq .0) (ht .0) f h)
+        (λ τ S′ E′ h′. match-trees qs ts τ ps rest (j + size t) S′ E′ (hq .1) (ht .1) n′ (past-tree ss t (allWords ts ++ rest) j f) h′))
+
+  -- ---- THE WHOLE LEFT SIDE against the tree at the front
+  module _ (l t : Tree) (hl : Shaped (arityOf ks) l) (ht : Shaped (arityOf ks) t) (rest : List ℕ) (e : ss ≡ words t ++ rest) where
+    whole : Outcome (words l) [] 0 (0 + size t) (replicate 8 0) (replicate 8 0) (match l t noSubst)
+    whole =
+        subst (λ (qs : List ℕ). Outcome qs [] 0 (0 + size t) (replicate 8 0) (replicate 8 0) (match l t noSubst)) (append-nil (words l))
+        (match-tree l t noSubst [] rest 0 (replicate 8 0) (replicate 8 0) hl ht e start-holds)
+
+    pub fits-is : fits ks ss (words l) 0 ≡ matched (match l t noSubst)
+    unfolding fits
+    fits-is = go (match l t noSubst) whole
+      where
+        go : (o : Option Subst) → Outcome (words l) [] 0 (0 + size t) (replicate 8 0) (replicate 8 0) o → fits ks ss (words l) 0 ≡ matched o
+        go none h = h
+        go (some τ) h = h .fit
+
+    -- what the variables take, where the tree matches
+    module _ (σ : Subst) (q : match l t noSubst ≡ some σ) where
+      abbrev pub taken : Bound
+      taken = binds ks ss (words l) 0 (replicate 8 0) (replicate 8 0)
+
+      pub bound-is : (x : ℕ) → x < 8 → boundTo ss taken x ≡ words (σ x)
+      unfolding binds
+      bound-is x h =
+          let a = subst (Outcome (words l) [] 0 (0 + size t) (replicate 8 0) (replicate 8 0)) q whole in
+          let f : taken ≡ record { starts = a .starts; ends = a .ends } = a .bind in
+          ap (λ (b : Bound). boundTo ss b x) f ∙ a .holds .slots x h
+
+      -- the right side's words with the taken words in the place of its variables
+      pub filled-is : (r : Tree) → Shaped (arityOf ks) r → fill (boundTo ss taken) (words r) ≡ words (inst σ r)
+      filled-is r hr = same (words r) ∙ sym (fill-words (arityOf ks) r σ hr)
+        where
+          same : (ws : List ℕ) → fill (boundTo ss taken) ws ≡ fill (λ x. words (σ x)) ws
+          same [] = refl
+          same (w ∷ ws) = ap₂ _++_ (one (isVar w) refl) (same ws)
+            where
+              one : (b : Bool) → isVar w ≡ b → pick b (boundTo ss taken (w - 64)) (w ∷ []) ≡ pick b (words (σ (w - 64))) (w ∷ [])
+              one true e = bound-is (w - 64) (isVar-slot w e .1)
+              one false e = refl

@@ -1,0 +1,122 @@
+-- `matching::bind` meets its contract. The invariant: what is left of the left side fills the slots as the whole does.
+use mathlib.Core.Path.{_≡_, refl, sym, ap, _∙_}
+use mathlib.Core.Logic.{⊎-elim}
+use Prim.Native.Nat.{_-_, _≤_}
+use native.Mathlib.Omega.{arith}
+use lib.ListN.{length, drop, getD, replicate, length-set}
+use Rattle.rules.specs.Matching.{binds}
+use Rattle.rules.proofs.Takes.{isVar-slot, binds-end, binds-stop, binds-var, binds-plain}
+use borrow.Author.Needs.{needs}
+use Rattle.rules.proofs.matching.bind.Statement.{statement}
+use Rattle.rules.proofs.matching.bind.Tie as tie
+
+abbrev Inv-loop : tie.InvT-loop
+Inv-loop arities left subject starts₀ ends₀ i₀ j₀ starts ends i j =
+    (i ≤ length left) × (length starts ≡ 8) × (length ends ≡ 8)
+    × (binds arities subject left 0 (replicate 8 0) (replicate 8 0) ≡ binds arities subject (drop i left) j starts ends)
+
+abbrev μ-loop : tie.MeasureT-loop
+μ-loop arities left subject starts₀ ends₀ i₀ j₀ starts ends i j = length left - i
+
+loop-holds : tie.Need-loop-holds Inv-loop μ-loop
+loop-holds c = (omega arith, refl, refl, refl)
+
+mul-p : tie.Need-mul-p Inv-loop μ-loop
+mul-p c = search needs
+
+shared-slice-read-p : tie.Need-shared-slice-read-p Inv-loop μ-loop
+shared-slice-read-p c = search needs
+
+take-word-requires : tie.Need-take-word-requires Inv-loop μ-loop
+take-word-requires c κs = search needs
+
+enum-known-e : tie.Need-enum-known-e Inv-loop μ-loop
+enum-known-e c = search needs
+
+is-var-requires : tie.Need-is-var-requires Inv-loop μ-loop
+is-var-requires c κs = search needs
+
+sub-word : tie.Need-sub-word Inv-loop μ-loop
+sub-word c = isVar-slot _ (sym (c .before .is-var .ensures) ∙ c .if1 .taken) .0
+
+word-requires : tie.Need-word-requires Inv-loop μ-loop
+word-requires c κs = search needs
+
+mul-starts : tie.Need-mul-starts Inv-loop μ-loop
+mul-starts c = search needs
+
+array-write-starts : tie.Need-array-write-starts Inv-loop μ-loop
+array-write-starts c =
+    let at = c .before .before .before .before .before .before .before .before .before in
+    let w = getD (at .before .before .before .before .args .left .now) (at .loop .i) 0 in
+    omega (arith, c .word .ensures .0, isVar-slot w (sym (c .before .before .is-var .ensures) ∙ c .before .if1 .taken))
+
+mul-ends : tie.Need-mul-ends Inv-loop μ-loop
+mul-ends c = search needs
+
+array-write-ends : tie.Need-array-write-ends Inv-loop μ-loop
+array-write-ends c =
+    let at = c .before .before .before .before .before .before .before .before .before in
+    let w = getD (at .before .before .before .before .args .left .now) (at .loop .i) 0 in
+    omega (arith, c .word .ensures .0, isVar-slot w (sym (c .before .before .is-var .ensures) ∙ c .before .if1 .taken))
+
+enum-told : tie.Need-enum-told Inv-loop μ-loop
+enum-told c = search needs
+
+returns : tie.Need-returns Inv-loop μ-loop
+returns c =
+    let at = c .before .before .before .before .before in
+    sym (at .loop .inv .3 ∙ binds-stop _ _ _ _ _ (c .before .before .before .before .loop-test .taken) _ _ (sym (c .before .before .take-word .ensures) ∙ c .enum-told .given .1))
+
+add-i : tie.Need-add-i Inv-loop μ-loop
+add-i c = search needs
+
+loop-less : tie.Need-loop-less Inv-loop μ-loop
+loop-less c = search needs
+
+loop-again : tie.Need-loop-again Inv-loop μ-loop
+loop-again c =
+    let at = c .before .before .before .before .before .before .before .before in
+    let a = at .before .before .before .before .args in
+    let l = at .loop in
+    let e = c .before .before .before .e .given .0 .0 in
+    let q = sym (c .before .before .before .before .before .take-word .ensures) ∙ c .before .before .before .e .given .1 in (
+      omega arith,
+      ⊎-elim (λ w. ap length (w .2) ∙ simp length-set (l .inv .1)) (λ w. ap length (w .1) ∙ l .inv .1) (c .if1 .came),
+      ⊎-elim (λ w. ap length (w .3) ∙ simp length-set (l .inv .2)) (λ w. ap length (w .2) ∙ l .inv .2) (c .if1 .came),
+      l .inv .3
+          ∙ ⊎-elim
+          (λ w. binds-var (a .arities .now) (a .subject .now) (a .left .now) (l .i) (l .j) (omega arith) (l .starts) (l .ends) e (sym (c .before .is-var .ensures) ∙ w .0 .taken) q
+          ∙ cc (w .1 .ensures .0, w .2, w .3, w .4))
+          (λ w. binds-plain (a .arities .now) (a .subject .now) (a .left .now) (l .i) (l .j) (omega arith) (l .starts) (l .ends) e (sym (c .before .is-var .ensures) ∙ w .0 .left) q
+          ∙ cc (w .1, w .2, w .3))
+          (c .if1 .came),
+    )
+
+returns-2 : tie.Need-returns-2 Inv-loop μ-loop
+returns-2 c = sym (c .before .loop .inv .3 ∙ binds-end _ _ _ _ _ _ _ (c .loop-test .left))
+
+pub bind-spec : {M : Type 1} → statement M
+bind-spec =
+    tie.close
+    (tie.spec
+    Inv-loop
+    μ-loop
+    loop-holds
+    mul-p
+    shared-slice-read-p
+    take-word-requires
+    enum-known-e
+    is-var-requires
+    sub-word
+    word-requires
+    mul-starts
+    array-write-starts
+    mul-ends
+    array-write-ends
+    enum-told
+    returns
+    add-i
+    loop-less
+    loop-again
+    returns-2)

@@ -1,0 +1,99 @@
+// Where terms and their parts stand among words. The words of a term are its root's word and then the words of its parts.
+ghost use mathlib.Core.Path.{_≡_};
+ghost use lib.ListN.{drop};
+ghost use Rattle.words.specs.Parts.{TermPart};
+ghost use Rattle.words.specs.Terms.{arityOf, past, skipAt, partAt, termAt};
+
+// The number of parts of each symbol below 13; word 0 is no symbol.
+const FIXED: [u8; 13] = [0, 0, 1, 0, 0, 0, 1, 2, 4, 1, 3, 1, 3];
+
+// The number of parts of the symbol w, where function k has arities[k] of them. What is no symbol has none.
+pub fn arity(arities: &[u8], w: u16) -> u8
+    ensures { λ r. ⌜ r ≡ arityOf (now (arities .entry)) w ⌝ }
+{
+    if w < 256 {
+        if w < 13 {
+            return FIXED[w as usize];
+        }
+        return 0;
+    }
+    let k = ((w - 256) / 8) as usize;
+    if k < arities.len() {
+        return arities[k];
+    }
+    0
+}
+
+// Where a term ends: the place past its last word, or Short where the words end inside it.
+pub enum Reach {
+    End(usize),
+    Short,
+}
+
+// The place past the term that starts at `at`: its root is read, and then each of its parts by the same rule.
+pub fn skip(arities: &[u8], words: &[u16], at: usize) -> Reach
+    ensures { λ r. ⌜ r ≡ skipAt (now (arities .entry)) (now (words .entry)) at ⌝ }
+{
+    if words.len() <= at {
+        return Reach::Short;
+    }
+    let mut left = arity(arities, words[at]);
+    let mut next = at + 1;
+    while 0 < left {
+        match skip(arities, words, next) {
+            Reach::End(e) => {
+                next = e;
+            }
+            Reach::Short => {
+                return Reach::Short;
+            }
+        }
+        left -= 1;
+    }
+    Reach::End(next)
+}
+
+// The place past the next n terms, the first of which starts at `at`.
+pub fn skip_many(arities: &[u8], words: &[u16], at: usize, n: u16) -> Reach
+    ensures { λ r. ⌜ r ≡ past (arityOf (now (arities .entry))) (drop at (now (words .entry))) n at ⌝ }
+{
+    let mut next = at;
+    let mut more = n;
+    while 0 < more {
+        let Reach::End(e) = skip(arities, words, next) else {
+            return Reach::Short;
+        };
+        next = e;
+        more -= 1;
+    }
+    Reach::End(next)
+}
+
+fn wide(b: u8) -> u16
+    ensures { λ r. ⌜ r ≡ b ⌝ }
+{
+    b as u16
+}
+
+// The place of part i, counted from 0, of the term that starts at `at`; Short where its root has no such part, or the words end before it.
+pub fn part_at(arities: &[u8], words: &[u16], at: usize, i: u8) -> Reach
+    ensures { λ r. ⌜ r ≡ partAt (now (arities .entry)) (now (words .entry)) at i ⌝ }
+{
+    if at < words.len() {
+        if i < arity(arities, words[at]) {
+            return skip_many(arities, words, at + 1, wide(i));
+        }
+    }
+    Reach::Short
+}
+
+// The words of the term that starts at `at`, as a part of the slice that holds them; an empty part of its start where the words end inside the term.
+pub fn term_at<'a>(arities: &[u8], words: &'a [u16], at: usize) -> &'a [u16]
+    ensures { λ r. ⌜ now r ≡ termAt (now (arities .entry)) (now (words .entry)) at ⌝ }
+    ensures lent { λ r. ⌜ TermPart (words .entry) at (skipAt (now (arities .entry)) (now (words .entry)) at) r ⌝ }
+{
+    match skip(arities, words, at) {
+        Reach::End(e) => &words[at..e],
+        Reach::Short => &words[0..0],
+    }
+}
