@@ -1,0 +1,2 @@
+-- The laws of declarations.
+pub mod Laws

@@ -1,0 +1,2 @@
+-- The laws of a term's record by its kind and body.
+pub mod Laws

@@ -1,0 +1,2 @@
+-- The laws of a record of bytes.
+pub mod Laws

@@ -1,0 +1,9 @@
+-- The definitions that contracts cite, by subject. Answer has what a caller cites.
+pub mod Answer
+pub mod Record
+pub mod Node
+pub mod Side
+pub mod Declarations
+pub mod Program
+pub mod Overlap
+pub mod Written
