@@ -1,0 +1,226 @@
+//! The text forms: a case as one line, its answer as one line, and the lines
+//! that the program prints.
+
+use crate::calls;
+use crate::checker::{About, Refusal};
+use crate::language::*;
+use std::fmt;
+
+/// The longest case line that is answered, in bytes without the line's end.
+pub const MAX_LINE: usize = 60_000;
+
+/// Lent slices are never made longer than this: no own list and no room comes
+/// near it, so no answer depends on the rest.
+const LONGEST_SLICE: u64 = 65_536;
+
+/// What lent words hold before a call; no symbol, so that unwritten words show.
+const UNWRITTEN: u16 = 0xffff;
+
+/// One case: `PROGRAM QUESTION STEPS LEVELS ROOM OWN FIRST SECOND`.
+#[derive(Clone, Debug, PartialEq, Eq)]
+pub struct Case {
+    pub program: Vec<u8>,
+    pub question: Vec<u8>,
+    pub steps: u64,
+    pub levels: u64,
+    pub room: u64,
+    /// Lengths of the lent slices in words.
+    pub own: u64,
+    pub first: u64,
+    pub second: u64,
+}
+
+impl fmt::Display for Case {
+    fn fmt(&self, f: &mut fmt::Formatter) -> fmt::Result {
+        write!(
+            f,
+            "{} {} {} {} {} {} {} {}",
+            to_hex(&self.program),
+            to_hex(&self.question),
+            self.steps,
+            self.levels,
+            self.room,
+            self.own,
+            self.first,
+            self.second
+        )
+    }
+}
+
+/// Reads a case line (without the line's end): eight fields, one space apart.
+pub fn parse_case(line: &[u8]) -> Option<Case> {
+    let fields: Vec<&[u8]> = line.split(|byte| *byte == b' ').collect();
+    let [program, question, steps, levels, room, own, first, second] = fields[..] else {
+        return None;
+    };
+    Some(Case {
+        program: from_hex(program)?,
+        question: from_hex(question)?,
+        steps: from_decimal(steps)?,
+        levels: from_decimal(levels)?,
+        room: from_decimal(room)?,
+        own: from_decimal(own)?,
+        first: from_decimal(first)?,
+        second: from_decimal(second)?,
+    })
+}
+
+/// The answer to one line of input (without the line's end).
+pub fn answer_line(line: &[u8]) -> String {
+    if line.len() > MAX_LINE {
+        return "too long".to_string();
+    }
+    match parse_case(line) {
+        Some(case) => answer_case(&case),
+        None => "bad line".to_string(),
+    }
+}
+
+/// The answer line of a case.
+pub fn answer_case(case: &Case) -> String {
+    let lend = |length: u64| vec![UNWRITTEN; length.min(LONGEST_SLICE) as usize];
+    let mut own = lend(case.own);
+    let mut first = lend(case.first);
+    let mut second = lend(case.second);
+    let result = calls::both(
+        &case.program,
+        &case.question,
+        case.steps,
+        case.levels,
+        case.room,
+        &mut own,
+        &mut first,
+        &mut second,
+    );
+    match result {
+        Err(refusal) => refusal_text(refusal),
+        Ok((evaluated, rewritten)) => {
+            // The own list ends where words are as they were lent.
+            let written = own.iter().position(|word| *word == UNWRITTEN);
+            let own = &own[..written.unwrap_or(own.len())];
+            let room = case.room as usize;
+            format!(
+                "ok {} ; {} ; {} ; {} ; {}",
+                answer_text(evaluated),
+                answer_text(rewritten),
+                words_text(own),
+                words_text(without_zeros(&first[..room])),
+                words_text(without_zeros(&second[..room]))
+            )
+        }
+    }
+}
+
+/// What document 01's program prints for the bytes of its standard input.
+pub fn program_output(input: &[u8]) -> String {
+    const MAX_INPUT: usize = 9_218;
+    const STEPS: u64 = 100_000;
+    const LEVELS: u64 = 500;
+    const ROOM: u64 = 4_096;
+    // No own list is longer than 13,263 words.
+    const OWN: usize = 16_384;
+    if input.len() > MAX_INPUT {
+        return "refused program 1 0\n".to_string();
+    }
+    let split = match input {
+        [high, low, rest @ ..] => {
+            let length = usize::from(*high) * 256 + usize::from(*low);
+            (length <= rest.len()).then(|| rest.split_at(length))
+        }
+        _ => None,
+    };
+    let Some((program, question)) = split else {
+        return "refused program 2 0\n".to_string();
+    };
+    let mut own = vec![0; OWN];
+    let mut first = vec![0; ROOM as usize];
+    let mut second = vec![0; ROOM as usize];
+    let result = calls::both(
+        program,
+        question,
+        STEPS,
+        LEVELS,
+        ROOM,
+        &mut own,
+        &mut first,
+        &mut second,
+    );
+    match result {
+        Err(refusal) => format!("{}\n", refusal_text(refusal)),
+        Ok((evaluated, rewritten)) => format!(
+            "eval {}\nrewrite {}\n",
+            answer_text(evaluated),
+            answer_text(rewritten)
+        ),
+    }
+}
+
+pub fn refusal_text(refusal: Refusal) -> String {
+    let about = match refusal.about {
+        About::Program => "program",
+        About::Question => "question",
+    };
+    format!("refused {about} {} {}", refusal.number, refusal.place)
+}
+
+pub fn answer_text(answer: Answer) -> String {
+    let steps = answer.steps;
+    match answer.ending {
+        Ending::Value(Value { k, base }) => {
+            let base = match base {
+                Base::Zero => "zero",
+                Base::True => "true",
+                Base::False => "false",
+            };
+            format!("value {k} {base} {steps}")
+        }
+        Ending::Exception(exception) => format!("exception {exception} - {steps}"),
+        Ending::Stuck(s) => format!("stuck {s} - {steps}"),
+        Ending::OutOfSteps => format!("out - - {steps}"),
+        Ending::TooDeep => format!("deep - - {steps}"),
+        Ending::TooBig => format!("big - - {steps}"),
+    }
+}
+
+fn words_text(words: &[u16]) -> String {
+    if words.is_empty() {
+        return "-".to_string();
+    }
+    let words: Vec<String> = words.iter().map(u16::to_string).collect();
+    words.join(",")
+}
+
+fn without_zeros(words: &[u16]) -> &[u16] {
+    let length = words
+        .iter()
+        .rposition(|word| *word != 0)
+        .map_or(0, |i| i + 1);
+    &words[..length]
+}
+
+pub fn to_hex(bytes: &[u8]) -> String {
+    if bytes.is_empty() {
+        return "-".to_string();
+    }
+    bytes.iter().map(|byte| format!("{byte:02x}")).collect()
+}
+
+pub fn from_hex(text: &[u8]) -> Option<Vec<u8>> {
+    if text == b"-" {
+        return Some(Vec::new());
+    }
+    if text.is_empty() || text.len() % 2 == 1 {
+        return None;
+    }
+    let digit = |c: u8| char::from(c).to_digit(16).map(|digit| digit as u8);
+    text.chunks(2)
+        .map(|pair| Some(digit(pair[0])? * 16 + digit(pair[1])?))
+        .collect()
+}
+
+fn from_decimal(text: &[u8]) -> Option<u64> {
+    if text.is_empty() || !text.iter().all(u8::is_ascii_digit) {
+        return None;
+    }
+    std::str::from_utf8(text).ok()?.parse().ok()
+}

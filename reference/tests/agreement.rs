@@ -1,0 +1,147 @@
+//! Generated cases: evaluator and rewriter agree, and each obeys the laws that
+//! the allowances imply.
+
+use reference::checker::{check_program, check_question};
+use reference::evaluator;
+use reference::generator::{self, Random};
+use reference::language::*;
+use reference::lines::{answer_line, parse_case};
+use reference::rewriter::{self, Rules};
+use reference::translator::{own_list, term_words};
+
+/// Calls `test` on generated cases that are accepted, with their steps.
+fn accepted(seed: u64, count: usize, mut test: impl FnMut(&Program, &Term, u64)) -> usize {
+    let mut random = Random::new(seed);
+    let mut tested = 0;
+    for _ in 0..count {
+        let case = generator::case(&mut random);
+        let Ok(program) = check_program(&case.program) else {
+            continue;
+        };
+        let Ok(question) = check_question(&program, &case.question) else {
+            continue;
+        };
+        test(&program, &question, case.steps.min(3_000));
+        tested += 1;
+    }
+    tested
+}
+
+#[test]
+fn the_two_engines_agree() {
+    let mut equal = 0;
+    let tested = accepted(2_024, 12_000, |program, question, steps| {
+        let own = own_list(program);
+        let rules = Rules::new(program, &own);
+        let words = term_words(question);
+        let evaluated = evaluator::evaluate(program, question, steps, MAX_LEVELS);
+        let (rewritten, _) = rewriter::rewrite(&rules, &words, steps, 4_096, |_| {});
+        let deep = evaluated.ending == Ending::TooDeep;
+        let big = rewritten.ending == Ending::TooBig;
+        match (deep, big) {
+            (false, false) => {
+                assert_eq!(evaluated, rewritten);
+                equal += 1;
+            }
+            // An engine that is cut has counted no more than the other.
+            (true, false) => assert!(evaluated.steps <= rewritten.steps),
+            (false, true) => assert!(rewritten.steps <= evaluated.steps),
+            (true, true) => {}
+        }
+    });
+    assert!(tested > 6_000, "{tested}");
+    assert!(equal > 5_000, "{equal}");
+}
+
+#[test]
+fn a_step_allowance_only_cuts() {
+    accepted(7, 400, |program, question, _| {
+        let most = 150;
+        for levels in [3, 12, MAX_LEVELS] {
+            let full = evaluator::evaluate(program, question, most, levels);
+            let cost = match full.ending {
+                Ending::OutOfSteps => most + 1,
+                _ => full.steps,
+            };
+            for steps in 0..=most {
+                let found = evaluator::evaluate(program, question, steps, levels);
+                let expected = if cost <= steps {
+                    full
+                } else {
+                    Answer {
+                        ending: Ending::OutOfSteps,
+                        steps,
+                    }
+                };
+                assert_eq!(found, expected);
+            }
+        }
+    });
+}
+
+#[test]
+fn every_step_allowance_shows_its_own_term() {
+    accepted(8, 400, |program, question, _| {
+        let own = own_list(program);
+        let rules = Rules::new(program, &own);
+        let words = term_words(question);
+        let mut terms = Vec::new();
+        let (full, last) = rewriter::rewrite(&rules, &words, 60, 300, |term| {
+            terms.push(term.to_vec());
+        });
+        assert_eq!(terms.last().cloned().unwrap_or_default(), last);
+        for (steps, term) in terms.iter().enumerate() {
+            let (found, held) = rewriter::rewrite(&rules, &words, steps as u64, 300, |_| {});
+            assert_eq!(held, *term);
+            if (steps as u64) < full.steps {
+                let ending = Ending::OutOfSteps;
+                let steps = steps as u64;
+                assert_eq!(found, Answer { ending, steps });
+            } else {
+                assert_eq!(found, full);
+            }
+        }
+    });
+}
+
+#[test]
+fn more_room_changes_no_term() {
+    accepted(9, 600, |program, question, steps| {
+        let own = own_list(program);
+        let rules = Rules::new(program, &own);
+        let words = term_words(question);
+        let steps = steps.min(200);
+        let mut terms = Vec::new();
+        let (full, _) = rewriter::rewrite(&rules, &words, steps, 4_096, |term| {
+            terms.push(term.to_vec());
+        });
+        for room in [1, words.len(), words.len() + 9, 60, 200] {
+            let (found, held) = rewriter::rewrite(&rules, &words, steps, room, |_| {});
+            match terms.iter().position(|term| term.len() > room) {
+                // The first term over the room ends the run at its step.
+                Some(at) => {
+                    let ending = Ending::TooBig;
+                    let steps = at as u64;
+                    assert_eq!(found, Answer { ending, steps });
+                    let before = at.checked_sub(1).map(|i| terms[i].clone());
+                    assert_eq!(held, before.unwrap_or_default());
+                }
+                None => assert_eq!(found, full),
+            }
+        }
+    });
+}
+
+/// Reading the case back gives the case, and the same seed the same cases.
+#[test]
+fn generated_lines() {
+    let (mut one, mut two) = (Random::new(5), Random::new(5));
+    for _ in 0..2_000 {
+        let case = generator::case(&mut one);
+        assert_eq!(case, generator::case(&mut two));
+        let line = case.to_string();
+        assert_eq!(parse_case(line.as_bytes()), Some(case));
+        let answer = answer_line(line.as_bytes());
+        assert!(answer.starts_with("ok ") || answer.starts_with("refused "));
+    }
+}
