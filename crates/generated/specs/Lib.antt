@@ -1,0 +1,3 @@
+-- Definitions that the contracts cite.
+pub mod Wrote
+pub mod CallRules

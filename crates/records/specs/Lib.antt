@@ -1,0 +1,4 @@
+-- Definitions that the contracts cite.
+pub mod Records
+pub mod Roots
+pub mod Agrees

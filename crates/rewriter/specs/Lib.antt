@@ -1,0 +1,3 @@
+-- The definitions that the contract and the law cite.
+pub mod Read
+pub mod Meaning

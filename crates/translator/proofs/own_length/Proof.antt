@@ -1,0 +1,32 @@
+-- `own_length` meets its contract.
+use mathlib.Core.Path.{ap, _∙_}
+use native.Mathlib.Omega.{arith}
+use lib.ListN.{length}
+use Rattle.translator.proofs.Accepted.{Ready, accepted-ready, ready-as}
+use Rattle.translator.proofs.own_length.Statement.{statement}
+use Rattle.translator.proofs.own_length.Tie as tie
+
+ready : (c : tie.Start) → let a = c .args in Ready (a .arities .now) (a .program .now) (a .openings .now) (a .exceptions) (a .functions)
+ready c = let a = c .args in accepted-ready (a .arities .now) (a .program .now) (a .openings .now) (a .exceptions) (a .functions) (c .pre)
+
+-- and with the narrowed numbers
+held : (c : tie.After-byte) → let a = c .before .before .before .before .before .args in Ready (a .arities .now) (a .program .now) (a .openings .now) (c .before .narrow .result) (c .byte .result)
+held c =
+    let at = c .before .before .before .before .before in
+    let a = at .args in
+    ready-as (a .arities .now) (a .program .now) (a .openings .now) (a .exceptions) (a .functions) (c .before .narrow .result) (c .byte .result) (at .pre) (c .before .narrow .ensures) (c .byte .ensures)
+
+narrow-requires : tie.Need-narrow-requires
+narrow-requires c κs = omega (arith, ready (c .before .before .before) .few)
+
+byte-requires : tie.Need-byte-requires
+byte-requires c κs = omega (arith, ready (c .before .before .before .before) .functions)
+
+list-length-requires : tie.Need-list-length-requires
+list-length-requires c κs = (held c .listed, held c .small, held c .few)
+
+returns : tie.Need-returns
+returns c s e = c .list-length .ensures ∙ ap length (held (c .before) .list s e)
+
+pub own-length-spec : {M : Type 1} → statement M
+own-length-spec = tie.close (tie.spec narrow-requires byte-requires list-length-requires returns)

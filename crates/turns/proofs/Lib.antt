@@ -1,0 +1,5 @@
+-- Laws of one step and of runs on words: Ruled, Runs. The same on the words of trees: TreeStep, TreeRun.
+pub mod Ruled
+pub mod Runs
+pub mod TreeStep
+pub mod TreeRun

@@ -1,0 +1,158 @@
+-- The laws of a rule's use and of the next term.
+use mathlib.Core.Path.{_≡_, refl, sym, ap, ap₂, subst, _∙_}
+use mathlib.Core.Bool.{Bool, true, false}
+use mathlib.Core.Option.{Option, none, some}
+use mathlib.Core.List.{List, [], _∷_}
+use Prim.Native.Nat.{ℕ, zero, suc, _+_, _-_, _≤_, _<_}
+use native.Mathlib.Omega.{arith}
+use lib.Dec.{eqb, ltb}
+use lib.ListN.{length, getD, take, drop, set, replicate}
+use borrow.Author.Tests.{lt-ltb, le-ltb, ltb-true}
+use Rattle.theory.specs.Syntax.{pick}
+use Rattle.theory.specs.Words.{isVar}
+use Rattle.words.specs.declared.terms.Reach.{Reach}
+use Rattle.words.specs.declared.terms.Reach.the-variants.{End, Short}
+use Rattle.words.specs.Terms.{skipAt}
+use Rattle.words.proofs.Skips.{skip-reach}
+use Rattle.rules.specs.Matching.{takes, reached, noted, binds}
+use Rattle.rules.specs.declared.matching.Bound.{Bound}
+use Rattle.place.specs.Path.{siteAt}
+use Rattle.place.specs.declared.Site.{Site}
+use Rattle.place.specs.declared.Site.the-variants.{Nothing, At}
+use Rattle.theory.specs.Buffers.{part}
+use Rattle.splice.specs.Right.{Within, placed, writtenOf, stepOf}
+use Rattle.splice.specs.declared.Written.{Written}
+use Rattle.turns.specs.declared.step.Next.{Next}
+use Rattle.turns.specs.declared.step.Next.the-variants as next
+use Rattle.turns.specs.Next.{left, right, boundBy, ruled, sited, nextW, made, nextIn, placedNext}
+use Rattle.rules.specs.Finding.{fittingOf, ruleOf}
+use Rattle.rules.specs.declared.finding.Fitting.{Fitting}
+
+-- what the answers come to
+pub nothing : (room : ℕ) (o : Option (List ℕ)) (d : List ℕ) → o ≡ none → (next.Nothing ≡ nextIn room o) × (d ≡ placedNext room o d)
+nothing room o d e = (sym (ap (nextIn room) e), sym (ap (λ (o : Option (List ℕ)). placedNext room o d) e))
+
+pub answered : (room : ℕ) (o : Option (List ℕ)) (u d x : List ℕ) (w : Written) (r : Next) → o ≡ some u → r ≡ made w → w ≡ writtenOf room u → x ≡ placed room u d
+    → (r ≡ nextIn room o) × (x ≡ placedNext room o d)
+answered room o u d x w r e p q l = (p ∙ ap made q ∙ sym (ap (nextIn room) e), l ∙ sym (ap (λ (o : Option (List ℕ)). placedNext room o d) e))
+
+pub passed-on : (room : ℕ) (o o′ : Option (List ℕ)) (d x : List ℕ) (r : Next) → o ≡ o′ → r ≡ nextIn room o → x ≡ placedNext room o d
+    → (r ≡ nextIn room o′) × (x ≡ placedNext room o′ d)
+passed-on room o o′ d x r e p q = (p ∙ ap (nextIn room) e, q ∙ ap (λ (o : Option (List ℕ)). placedNext room o d) e)
+
+-- ---- the slots end within the subject
+abbrev Inside : List ℕ → ℕ → Type 0
+Inside slots n = (v : ℕ) → getD slots v 0 ≤ n
+
+zeros-inside : (n : ℕ) → Inside (replicate 8 0) n
+zeros-inside n zero = omega arith
+zeros-inside n (suc zero) = omega arith
+zeros-inside n (suc (suc zero)) = omega arith
+zeros-inside n (suc (suc (suc zero))) = omega arith
+zeros-inside n (suc (suc (suc (suc zero)))) = omega arith
+zeros-inside n (suc (suc (suc (suc (suc zero))))) = omega arith
+zeros-inside n (suc (suc (suc (suc (suc (suc zero)))))) = omega arith
+zeros-inside n (suc (suc (suc (suc (suc (suc (suc zero))))))) = omega arith
+zeros-inside n (suc (suc (suc (suc (suc (suc (suc (suc v)))))))) = omega arith
+
+set-inside : (slots : List ℕ) (i x n : ℕ) → Inside slots n → x ≤ n → Inside (set slots i x) n
+set-inside [] i x n h k v = h v
+set-inside (s ∷ slots) zero x n h k zero = k
+set-inside (s ∷ slots) zero x n h k (suc v) = h (suc v)
+set-inside (s ∷ slots) (suc i) x n h k zero = h zero
+set-inside (s ∷ slots) (suc i) x n h k (suc v) = set-inside slots i x n (λ u. h (suc u)) k v
+
+noted-inside : (slots : List ℕ) (p x n : ℕ) → Inside slots n → x ≤ n → Inside (noted slots p x) n
+unfolding noted
+noted-inside slots p x n h k = go (isVar p)
+  where
+    go : (b : Bool) → Inside (pick b (set slots (p - 64) x) slots) n
+    go true = set-inside slots (p - 64) x n h k
+    go false = h
+
+never : {A : Type 0} (q : ℕ) → Short ≡ End q → A
+never q e = absurd (let z : _≡_ {A = ℕ} 0 1 = cc in omega arith)
+
+takes-inside : (ks ss : List ℕ) (p j e : ℕ) → takes ks ss p j ≡ End e → e ≤ length ss
+unfolding takes
+takes-inside ks ss p j e q = go (isVar p) (ltb j (length ss)) refl (eqb p (getD ss j 0)) q
+  where
+    go : (a b : Bool) → ltb j (length ss) ≡ b → (c : Bool) → pick a (skipAt ks ss j) (pick b (pick c (End (j + 1)) Short) Short) ≡ End e → e ≤ length ss
+    go true b t c k = skip-reach ks ss j e k .1
+    go false true t true k = let l : j < length ss = ltb-true j (length ss) t in let m : j + 1 ≡ e = cc in omega arith
+    go false true t false k = never e k
+    go false false t c k = never e k
+
+binds-inside : (ks ss left : List ℕ) (j : ℕ) (starts ends : List ℕ) → Inside ends (length ss) → Inside (binds ks ss left j starts ends .ends) (length ss)
+unfolding binds
+binds-inside ks ss [] j starts ends h = h
+binds-inside ks ss (p ∷ ps) j starts ends h = go (takes ks ss p j) refl (λ e k. binds-inside ks ss ps e (noted starts p j) (noted ends p e) k)
+  where
+    go : (r : Reach) → takes ks ss p j ≡ r
+        → ((e : ℕ) → Inside (noted ends p e) (length ss) → Inside (binds ks ss ps e (noted starts p j) (noted ends p e) .ends) (length ss))
+        → Inside (reached r (λ e. binds ks ss ps e (noted starts p j) (noted ends p e)) (record { starts = starts; ends = ends }) .ends) (length ss)
+    go (End e) q on = on e (noted-inside ends p e (length ss) h (takes-inside ks ss p j e q))
+    go Short q on = h
+
+pub bound-inside : (ks ss left : List ℕ) (b : Bound) (n : ℕ) → b ≡ binds ks ss left 0 (replicate 8 0) (replicate 8 0) → length ss ≡ n → Within (b .ends) n
+bound-inside ks ss left b n e l =
+    record { inside = λ v. subst (λ (m : ℕ). getD (b .ends) v 0 ≤ m) l (subst (λ (x : Bound). getD (x .ends) v 0 ≤ length ss) (sym e) (binds-inside ks ss left 0 (replicate 8 0) (replicate 8 0) (zeros-inside (length ss)) v)) }
+
+-- ---- a rule's use
+module _ (ks rule ws : List ℕ) (p e : ℕ) where
+  abbrev done : Option (List ℕ)
+  done = some (stepOf ws p e (right rule) (boundBy ks rule (part p e ws) .starts) (boundBy ks rule (part p e ws) .ends))
+
+  abbrev whole : Bool → Bool → Option (List ℕ)
+  whole a b = pick a none (pick b none done)
+
+  pub ruled-short : length rule < 2 → ruled ks rule ws p e ≡ none
+  unfolding ruled
+  ruled-short h = ap (λ (b : Bool). whole b (ltb (length rule) (2 + getD rule 0 0 + getD rule 1 0))) (lt-ltb (length rule) 2 h)
+
+  module _ (h : 2 ≤ length rule) (l r : ℕ) (el : l ≡ getD rule 0 0) (er : r ≡ getD rule 1 0) where
+    long : ruled ks rule ws p e ≡ whole false (ltb (length rule) (2 + l + r))
+    unfolding ruled
+    long =
+        ap (λ (b : Bool). whole b (ltb (length rule) (2 + getD rule 0 0 + getD rule 1 0))) (le-ltb (length rule) 2 h)
+        ∙ sym (ap₂ (λ (l r : ℕ). whole false (ltb (length rule) (2 + l + r))) el er)
+
+    pub ruled-cut : length rule < 2 + l + r → ruled ks rule ws p e ≡ none
+    ruled-cut k = long ∙ ap (whole false) (lt-ltb (length rule) (2 + l + r) k)
+
+    pub ruled-is : 2 + l + r ≤ length rule → (b : Bound) → b ≡ binds ks (part p e ws) (take (2 + l - 2) (drop 2 rule)) 0 (replicate 8 0) (replicate 8 0)
+        → ruled ks rule ws p e ≡ some (stepOf ws p e (take (2 + l + r - (2 + l)) (drop (2 + l) rule)) (b .starts) (b .ends))
+    ruled-is k b q =
+        let m : 2 + l - 2 ≡ l = omega arith in
+        let n : 2 + l + r - (2 + l) ≡ r = omega arith in
+        let s : boundBy ks rule (part p e ws) ≡ b
+        = sym (q ∙ ap (λ (i : ℕ). binds ks (part p e ws) (take i (drop 2 rule)) 0 (replicate 8 0) (replicate 8 0)) (m ∙ el)) in
+        long ∙ ap (whole false) (le-ltb (length rule) (2 + l + r) k)
+        ∙ ap (λ (x : Bound). some (stepOf ws p e (right rule) (x .starts) (x .ends))) s
+        ∙ ap₂ (λ (i j : ℕ). some (stepOf ws p e (take i (drop (2 + j) rule)) (b .starts) (b .ends))) (sym (n ∙ er)) (sym el)
+
+-- ---- the next term
+module _ (ks standing own si oi ws : List ℕ) where
+  abbrev S : Site
+  S = siteAt ks (fittingOf ks standing own si oi) ws 0
+
+  abbrev N : Option (List ℕ)
+  N = nextW ks standing own si oi ws
+
+  abbrev at : ℕ → Fitting → Option (List ℕ)
+  at p rule = reached (skipAt ks ws p) (λ e. ruled ks (ruleOf standing own rule) ws p e) none
+
+  pub next-none : S ≡ Nothing → N ≡ none
+  unfolding nextW
+  next-none e = ap (λ (s : Site). sited s at none) e
+
+  next-at : (p : ℕ) (rule : Fitting) → S ≡ At p rule → N ≡ at p rule
+  unfolding nextW
+  next-at p rule e = ap (λ (s : Site). sited s at none) e
+
+  module _ (p : ℕ) (rule : Fitting) (e : S ≡ At p rule) where
+    pub next-short : skipAt ks ws p ≡ Short → N ≡ none
+    next-short f = next-at p rule e ∙ ap (λ (r : Reach). reached r (λ e. ruled ks (ruleOf standing own rule) ws p e) none) f
+
+    pub next-ruled : (end : ℕ) → skipAt ks ws p ≡ End end → N ≡ ruled ks (ruleOf standing own rule) ws p end
+    next-ruled end f = next-at p rule e ∙ ap (λ (r : Reach). reached r (λ e. ruled ks (ruleOf standing own rule) ws p e) none) f

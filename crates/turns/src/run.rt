@@ -1,0 +1,230 @@
+// The run: two lent buffers take turns, the term lives in one and the next one is made in the other. A flag says which of the two
+// holds the term.
+use crate::step::Next;
+use crate::step::next_into;
+use words::slices::copy_into;
+use words::slices::zero_from;
+ghost use mathlib.Core.Path.{_≡_};
+ghost use Prim.Native.Nat.{_≤_};
+ghost use lib.Dec.{leb};
+ghost use lib.ListN.{length, take, replicate};
+ghost use Rattle.theory.specs.Buffers.{over, padded};
+ghost use Rattle.turns.specs.Next.{nextW, nextIn};
+ghost use Rattle.turns.specs.Run.{Turned, Drove, isNothing, decided, source, ranOf, run, runFrom};
+
+// How a run ends.
+pub enum Ending {
+    // Nothing fits any more.
+    Done,
+    // The steps are used up.
+    Out,
+    // The next term does not fit the room.
+    Big,
+}
+
+// How a run ended, after how many steps, and the words of its last term.
+pub struct Ran {
+    pub ending: Ending,
+    pub steps: usize,
+    pub len: usize,
+}
+
+// The same before the buffers are set in order, and whether the term is in the second.
+pub struct Driven {
+    pub ending: Ending,
+    pub steps: usize,
+    pub len: usize,
+    pub flip: bool,
+}
+
+// What follows a turn: the run ends, with its count of steps, or it goes on with a term of so many words.
+pub enum Move {
+    Stop(Ending, usize),
+    Go(usize),
+}
+
+// A turn: from the buffer that holds the term to the other.
+fn turn<'a>(
+    arities: &[u8],
+    standing: &'a [u16],
+    own: &'a [u16],
+    standing_index: &[usize],
+    own_index: &[usize],
+    first: &mut [u16],
+    second: &mut [u16],
+    flip: bool,
+    size: usize,
+    room: usize,
+) -> Next
+    requires { ⌜ (size ≤ room) × ((room ≤ length (now first)) × ((room ≤ length (now second)) × (room ≤ 65536))) ⌝ }
+    ensures { λ r. ⌜ r ≡ nextIn room ((nextW (now (arities .entry)) (now (standing .entry)) (now (own .entry)) (now («standing_index» .entry)) (now («own_index» .entry))) (take size (source flip (now (first .entry)) (now (second .entry))))) ⌝ }
+    ensures { λ _. ⌜ Turned (nextW (now (arities .entry)) (now (standing .entry)) (now (own .entry)) (now («standing_index» .entry)) (now («own_index» .entry))) flip room size (now (first .entry)) (now (second .entry)) (now (first .exit)) (now (second .exit)) ⌝ }
+{
+    if flip {
+        next_into(arities, standing, own, standing_index, own_index, &second[..size], first, room)
+    } else {
+        next_into(arities, standing, own, standing_index, own_index, &first[..size], second, room)
+    }
+}
+
+fn is_nothing(next: Next) -> bool
+    ensures { λ r. ⌜ r ≡ isNothing next ⌝ }
+{
+    match next {
+        Next::Made(_) => false,
+        Next::Over => false,
+        Next::Nothing => true,
+    }
+}
+
+fn is_spent(steps: usize, allowance: usize) -> bool
+    ensures { λ r. ⌜ r ≡ leb allowance steps ⌝ }
+{
+    allowance <= steps
+}
+
+// What follows a turn after so many steps: where nothing fits, the run is done; else where the steps are used up, it is out of them;
+// else where the next term does not fit the room, it is too big, that step counted; else it goes on.
+fn decide(next: Next, steps: usize, allowance: usize) -> Move
+    ensures { λ r. ⌜ r ≡ decided next steps allowance ⌝ }
+{
+    let finished = is_nothing(next);
+    let spent = is_spent(steps, allowance);
+    if finished {
+        return Move::Stop(Ending::Done, steps);
+    }
+    if spent {
+        return Move::Stop(Ending::Out, steps);
+    }
+    if let Next::Made(n) = next {
+        return Move::Go(n);
+    }
+    Move::Stop(Ending::Big, steps + 1)
+}
+
+// The turns of a run.
+fn drive<'a>(
+    arities: &[u8],
+    standing: &'a [u16],
+    own: &'a [u16],
+    standing_index: &[usize],
+    own_index: &[usize],
+    first: &mut [u16],
+    second: &mut [u16],
+    len: usize,
+    allowance: usize,
+    room: usize,
+) -> Driven
+    requires { ⌜ (len ≤ room) × ((room ≤ length (now first)) × ((room ≤ length (now second)) × (room ≤ 65536))) ⌝ }
+    requires { ⌜ allowance ≤ 1000000 ⌝ }
+    ensures { λ r. ⌜ Drove room (run (nextW (now (arities .entry)) (now (standing .entry)) (now (own .entry)) (now («standing_index» .entry)) (now («own_index» .entry))) room allowance 0 (take len (now (first .entry)))) r (now (first .entry)) (now (second .entry)) (now (first .exit)) (now (second .exit)) ⌝ }
+{
+    let mut flip = false;
+    let mut size = len;
+    let mut steps = 0;
+    loop {
+        let next = turn(arities, standing, own, standing_index, own_index, first, second, flip, size, room);
+        match decide(next, steps, allowance) {
+            Move::Stop(ending, count) => {
+                return Driven {
+                    ending,
+                    steps: count,
+                    len: size,
+                    flip,
+                };
+            }
+            Move::Go(n) => {
+                flip = !flip;
+                size = n;
+                steps += 1;
+            }
+        }
+    }
+}
+
+// Brings the term to the first buffer.
+fn fetch(first: &mut [u16], second: &[u16], flip: bool, size: usize)
+    requires { ⌜ (size ≤ length (now first)) × (size ≤ length (now second)) ⌝ }
+    ensures { λ _. ⌜ now (first .exit) ≡ over (take size (source flip (now (first .entry)) (now (second .entry)))) (now (first .entry)) ⌝ }
+{
+    if flip {
+        copy_into(first, &second[..size]);
+    }
+}
+
+// Sets the buffers in order: the term in the first, then zeros; zeros in the second.
+fn tidy(first: &mut [u16], second: &mut [u16], flip: bool, size: usize, room: usize)
+    requires { ⌜ (size ≤ room) × ((room ≤ length (now first)) × (room ≤ length (now second))) ⌝ }
+    ensures { λ _. ⌜ now (first .exit) ≡ over (padded room (take size (source flip (now (first .entry)) (now (second .entry))))) (now (first .entry)) ⌝ }
+    ensures { λ _. ⌜ now (second .exit) ≡ over (replicate room 0) (now (second .entry)) ⌝ }
+{
+    fetch(first, second, flip, size);
+    zero_from(first, size, room);
+    zero_from(second, 0, room);
+}
+
+// A run: the first buffer begins with the term of len words; at the end it holds the last term that fitted, then zeros up to the
+// room, and the second zeros up to the room. Words past the room are untouched.
+pub fn run_in<'a>(
+    arities: &[u8],
+    standing: &'a [u16],
+    own: &'a [u16],
+    standing_index: &[usize],
+    own_index: &[usize],
+    first: &mut [u16],
+    second: &mut [u16],
+    len: usize,
+    allowance: usize,
+    room: usize,
+) -> Ran
+    requires { ⌜ (len ≤ room) × ((room ≤ length (now first)) × ((room ≤ length (now second)) × (room ≤ 65536))) ⌝ }
+    requires { ⌜ allowance ≤ 1000000 ⌝ }
+    ensures { λ r. ⌜ r ≡ ranOf (run (nextW (now (arities .entry)) (now (standing .entry)) (now (own .entry)) (now («standing_index» .entry)) (now («own_index» .entry))) room allowance 0 (take len (now (first .entry)))) ⌝ }
+    ensures { λ _. ⌜ now (first .exit) ≡ over (padded room (run (nextW (now (arities .entry)) (now (standing .entry)) (now (own .entry)) (now («standing_index» .entry)) (now («own_index» .entry))) room allowance 0 (take len (now (first .entry))) .term)) (now (first .entry)) ⌝ }
+    ensures { λ _. ⌜ now (second .exit) ≡ over (replicate room 0) (now (second .entry)) ⌝ }
+{
+    let d = drive(arities, standing, own, standing_index, own_index, first, second, len, allowance, room);
+    let flip = d.flip;
+    let size = d.len;
+    let ending = d.ending;
+    let steps = d.steps;
+    tidy(first, second, flip, size, room);
+    Ran {
+        ending,
+        steps,
+        len: size,
+    }
+}
+
+// A run from a term that is handed over, in two lent buffers of at least the room.
+pub fn start<'a>(
+    arities: &[u8],
+    standing: &'a [u16],
+    own: &'a [u16],
+    standing_index: &[usize],
+    own_index: &[usize],
+    term: &[u16],
+    first: &mut [u16],
+    second: &mut [u16],
+    allowance: usize,
+    room: usize,
+) -> Ran
+    requires { ⌜ (room ≤ length (now first)) × ((room ≤ length (now second)) × (room ≤ 65536)) ⌝ }
+    requires { ⌜ allowance ≤ 1000000 ⌝ }
+    ensures { λ r. ⌜ r ≡ ranOf (runFrom (nextW (now (arities .entry)) (now (standing .entry)) (now (own .entry)) (now («standing_index» .entry)) (now («own_index» .entry))) room allowance (now (term .entry))) ⌝ }
+    ensures { λ _. ⌜ now (first .exit) ≡ over (padded room (runFrom (nextW (now (arities .entry)) (now (standing .entry)) (now (own .entry)) (now («standing_index» .entry)) (now («own_index» .entry))) room allowance (now (term .entry)) .term)) (now (first .entry)) ⌝ }
+    ensures { λ _. ⌜ now (second .exit) ≡ over (replicate room 0) (now (second .entry)) ⌝ }
+{
+    let len = term.len();
+    if room < len {
+        zero_from(first, 0, room);
+        zero_from(second, 0, room);
+        return Ran {
+            ending: Ending::Big,
+            steps: 0,
+            len: 0,
+        };
+    }
+    copy_into(first, term);
+    run_in(arities, standing, own, standing_index, own_index, first, second, len, allowance, room)
+}
