@@ -14,7 +14,8 @@ use Rattle.checker.specs.declared.overlap.Overlap.the-variants.{At, Nowh
 use Rattle.checker.specs.declared.declarations.Top.{Top}
 use Rattle.checker.specs.declared.side.Stand.the-variants.{Asked}
 use Rattle.checker.specs.declared.side.Side.{Side}
-use Rattle.checker.specs.Answer.{padded, openedAt, refusedAs, checkedOf, declared, verdictOf}
+use Rattle.checker.specs.Answer.{padded, refusedAs, checkedOf, declared, verdictOf}
+use Rattle.theory.specs.Bytes.{openedAt}
 use Rattle.checker.specs.Side.{noVars, scanFrom}
 use Rattle.checker.specs.Declarations.{Kept, stopTop, ownArities}
 use Rattle.checker.specs.Program.{parseOf, topAt, topOf, settled, ownOpenings}

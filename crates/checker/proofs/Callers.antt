@@ -13,7 +13,8 @@ use Rattle.theory.specs.Bytes
 use Rattle.checker.specs.declared.Checked.{Checked}
 use Rattle.checker.specs.declared.Verdict.{Verdict}
 use Rattle.checker.specs.declared.declarations.Top.{Top}
-use Rattle.checker.specs.Answer.{padded, table, openedAt, refusedAs, checkedOf, declared, verdictOf}
+use Rattle.checker.specs.Answer.{padded, table, refusedAs, checkedOf, declared, verdictOf}
+use Rattle.theory.specs.Bytes.{openedAt}
 use Rattle.checker.specs.Declarations.{Kept, stopTop, startTop, ownArities}
 use Rattle.checker.specs.Program.{turnOf, turns, parseOf, topAt, topOf}
 use Rattle.checker.specs.Written.{bytesOf}

@@ -2,7 +2,7 @@
 use Prim.Native.Nat.{ℕ, zero, suc}
 use mathlib.Core.List.{List, [], _∷_, _++_}
 use lib.ListN.{length, replicate}
-use Rattle.theory.specs.Bytes.{Result, refused, good, Book, ruleCount, Declared, RuleAt}
+use Rattle.theory.specs.Bytes.{openedAt, Result, refused, good, Book, ruleCount, Declared}
 use Rattle.theory.specs.Syntax.{Term}
 use Rattle.checker.specs.declared.Checked.{Checked}
 use Rattle.checker.specs.declared.Verdict.{Verdict}
@@ -24,11 +24,6 @@ builtins = 2 ∷ 2 ∷ 1 ∷ 2 ∷ 2 ∷ 2 ∷ 0 ∷ 0 ∷ 0 ∷ 0 ∷ 0 ∷ 0 �
 -- the arities by function number, 48 of them: built-in b is b, declared f is 16 + f, and zeros behind
 unfoldable pub table : List ℕ → List ℕ
 table ns = builtins ++ padded 32 ns
-
--- where the rules open
-abbrev pub openedAt : List RuleAt → List ℕ
-openedAt [] = []
-openedAt (r ∷ rs) = r .opened ∷ openedAt rs
 
 -- a refused program: the number and the place, and zero elsewhere
 unfoldable pub refusedAs : ℕ → ℕ → Checked

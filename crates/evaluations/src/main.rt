@@ -1,5 +1,6 @@
 // Document 01's sums, the figures of document 004 and the endless program, evaluated: a line each, with the fields of document 01.
 mod programs;
+
 use crate::programs::ENDLESS;
 use crate::programs::FIGURE2;
 use crate::programs::FIGURE5;
@@ -134,7 +135,13 @@ fn figure_8() {
     let q1: [u16; 8] = [384, 2, 2, 2, 2, 2, 2, 1];
     answer(b"f(6) figure 8", &q1[..], &own[..], 500, 100000);
     let q2: [u16; 8] = [384, 2, 2, 2, 2, 2, 2, 1];
-    answer(b"f(6) figure 8, a million steps", &q2[..], &own[..], 500, 1000000);
+    answer(
+        b"f(6) figure 8, a million steps",
+        &q2[..],
+        &own[..],
+        500,
+        1000000,
+    );
 }
 
 // Figure 6, which does not end: too deep, or out of steps one step sooner.
@@ -156,9 +163,21 @@ fn endless() {
     let q2: [u16; 2] = [384, 1];
     answer(b"g(0), 100 levels, 496 steps", &q2[..], &own[..], 100, 496);
     let q3: [u16; 2] = [384, 1];
-    answer(b"g(0), 100 levels, 1000 steps", &q3[..], &own[..], 100, 1000);
+    answer(
+        b"g(0), 100 levels, 1000 steps",
+        &q3[..],
+        &own[..],
+        100,
+        1000,
+    );
     let q4: [u16; 2] = [384, 1];
-    answer(b"g(0), 1000 levels, 1000000 steps", &q4[..], &own[..], 1000, 1000000);
+    answer(
+        b"g(0), 1000 levels, 1000000 steps",
+        &q4[..],
+        &own[..],
+        1000,
+        1000000,
+    );
 }
 
 fn main() {

@@ -3,17 +3,17 @@ use mathlib.Core.Path.{_≡_, refl, sym, ap, _∙_, subst}
 use mathlib.Core.Bool.{Bool, true, false}
 use mathlib.Core.List.{List, [], _∷_, _++_, append-assoc}
 use mathlib.Core.Option.{Option, none as nothing, some}
-use Prim.Native.Nat.{ℕ, zero, suc, _+_, _-_, _<_, _≤_}
+use Prim.Native.Nat.{ℕ, suc, _+_, _-_, _<_, _≤_}
 use native.Mathlib.Nat.{add-zero}
 use native.Mathlib.Omega.{arith}
-use lib.Dec.{eqb, ltb, eqb·suc-zero}
+use lib.Dec.{eqb, eqb·suc-zero}
 use lib.ListN.{length, getD, set, drop, length-set, length-drop, length-append, getD-replicate}
 use lib.Seq.{getD-set-same, getD-set-other}
 use borrow.Author.Tests.{le-ltb, ne-eqb, eqb-true, eqb-false}
 use Rattle.theory.specs.Syntax.{Base, zeroB, trueB, falseB, Val, base, up, height, Pat, pbase, psucc, pvar, Def, Bindings, bindValue, nothingBound, sameBase, andThen, fit, fits, Found as TheoryFound, found, chosen, pick}
 use Rattle.theory.specs.Syntax as theory
 use Rattle.theory.specs.WellFormed.{NarrowPat, NarrowPats}
-use Rattle.theory.specs.Tree.{Tree, node, [·], _▹_, size, sizes, Rule}
+use Rattle.theory.specs.Tree.{node, [·], size, sizes, Rule}
 use Rattle.theory.specs.Words.{words, allWords, Shaped, storedRule, storedRules}
 use Rattle.theory.specs.Translation.{aux, tree, baseT, patT, patTs, ownRules, _⇒_}
 use Rattle.theory.proofs.Readability.{length-words, length-wordss}
@@ -21,7 +21,7 @@ use Rattle.words.specs.Stands.{Stands}
 use Rattle.evaluator.specs.declared.values.Value.{Value}
 use Rattle.evaluator.specs.declared.fitting.Found.{Found}
 use Rattle.evaluator.specs.Values.{none, nones}
-use Rattle.evaluator.specs.Fitting.{misfit, fits as fitsTo, fitNode, fitOf, fitThen, fitsOf, orElse, ruleOf, nextRule, foundFrom}
+use Rattle.evaluator.specs.Fitting.{misfit, fits as fitsTo, fitNode, fitOf, fitThen, fitsOf, orElse, ruleOf, foundFrom}
 use Rattle.evaluator.specs.Outcomes.{baseWord, root, valueOf}
 use Rattle.evaluator.proofs.Fits.{fit-step, found-past, found-step}
 use Rattle.evaluator.proofs.TheoryRows.{fill}

@@ -2,7 +2,7 @@
 use mathlib.Core.Path.{_≡_, refl, sym, ap, subst, fun-ext, _∙_}
 use mathlib.Core.Bool.{Bool, true, false}
 use mathlib.Core.List.{List, [], _∷_, append-nil}
-use Prim.Native.Nat.{ℕ, zero, suc, _-_, _<_, _≤_}
+use Prim.Native.Nat.{ℕ, zero, suc, _-_, _≤_}
 use native.Mathlib.Nat.{le-of-suc-le-suc, not-suc-le-zero}
 use native.Mathlib.Omega.{arith}
 use lib.Dec.{ltb}
@@ -60,9 +60,6 @@ module _ (n : ℕ) (fs : List Fun) (exceptions : n ≤ 16) (functions : length f
   unfolding rulesOf
   rules-are k = go (ltb k 48) refl (ltb k 16) refl
     where
-      w : ℕ
-      w = aux k (suc (funOf fs k .arity))
-
       go : (a : Bool) → ltb k 48 ≡ a → (b : Bool) → ltb k 16 ≡ b → pick a (pick b (partOf st (indexOf st) (aux k (suc (funOf fs k .arity)))) (partOf own (indexOf own) (aux k (suc (funOf fs k .arity))))) [] ≡ mine k
       go true e true f = standing-range fs (formed .small) k (ltb-true k 16 f)
       go true e false f = own-range fs (formed .small) n k (ltb-false k 16 f) (ltb-true k 48 e)

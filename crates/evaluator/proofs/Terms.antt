@@ -3,7 +3,7 @@ use mathlib.Core.Path.{_≡_, refl, sym, ap, _∙_, subst}
 use mathlib.Core.Bool.{false}
 use mathlib.Core.List.{List}
 use mathlib.Core.Option.{Option, none as nothing, some}
-use Prim.Native.Nat.{ℕ, zero, suc, _+_, _-_, _*_, _<_, _≤_}
+use Prim.Native.Nat.{ℕ, zero, suc, _+_, _-_, _<_, _≤_}
 use native.Mathlib.Omega.{arith}
 use lib.Dec.{eqb}
 use lib.ListN.{length, getD, set}
@@ -11,7 +11,7 @@ use borrow.Author.Tests.{lt-ltb, le-ltb, le-leb, ne-eqb}
 use Rattle.theory.specs.Syntax.{Base, zeroB, trueB, falseB, Val, Term, const, succ, tvar, raise, handle, cond, call, Terms, tnil, tcons, many, Program, Bindings, Found as TheoryFound, chosen, pick}
 use Rattle.theory.specs.Cost.{Args, vals, ended}
 use Rattle.theory.specs.Budget.{Remaining, endsLeaving, ranOut, thenWith, PayingEv, payArgs, bodyPays, callPays, payEval}
-use Rattle.theory.specs.Tree.{[·], _▹_, size, len}
+use Rattle.theory.specs.Tree.{[·], size, len}
 use Rattle.theory.specs.Words.{Shaped, Shapeds}
 use Rattle.theory.specs.Translation.{aux, exnT, tree, trees}
 use Rattle.words.specs.Terms.{arityOf}
@@ -27,7 +27,7 @@ use Rattle.evaluator.specs.declared.places.Kind.{Kind}
 use Rattle.evaluator.specs.declared.places.Kind.the-variants.{Data, Var, Raise, Part, Call}
 use Rattle.evaluator.specs.declared.places.Op.the-variants.{Succ, Handle, If}
 use Rattle.evaluator.specs.Values.{answer, nones}
-use Rattle.evaluator.specs.Places.{kindOf, argumentsOf, placePast}
+use Rattle.evaluator.specs.Places.{kindOf, argumentsOf}
 use Rattle.evaluator.specs.Rows.{goOf}
 use Rattle.evaluator.specs.Fitting.{rulesOf, foundFrom}
 use Rattle.evaluator.specs.Evaluation.{Evaluator, turnThen, listOf, enterThen, enteredOf, bodyOf, callOf, node, ev}

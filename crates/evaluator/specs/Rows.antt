@@ -2,7 +2,6 @@
 use Prim.Native.Nat.{ℕ, _+_, _-_}
 use lib.Dec.{eqb, leb}
 use Rattle.theory.specs.Syntax.{pick}
-use Rattle.evaluator.specs.declared.values.Value.{Value}
 use Rattle.evaluator.specs.declared.values.Ending.{Ending}
 use Rattle.evaluator.specs.declared.values.Ending.the-variants.{Done, Raised, Stuck, Out, Deep}
 use Rattle.evaluator.specs.declared.values.Answer.{Answer}

@@ -1,25 +1,25 @@
 // A term and a list of arguments, each evaluated by means of the other. Levels fall from a term to each thing evaluated for it; a list
-// costs no level, and its positions fall.
+// costs no level, and its positions fall. Laid out by hand: what is lent to every call stands on one line.
 use crate::fitting::find;
 use crate::fitting::rules_of;
+use crate::places::Kind;
+use crate::places::Op;
 use crate::places::arguments_of;
 use crate::places::exception_at;
 use crate::places::kind_of;
 use crate::places::place_past;
-use crate::places::Kind;
-use crate::places::Op;
+use crate::rows::Took;
+use crate::rows::Turn;
 use crate::rows::after_guard;
 use crate::rows::after_succ;
 use crate::rows::after_test;
 use crate::rows::go;
 use crate::rows::pay;
 use crate::rows::take_value;
-use crate::rows::Took;
-use crate::rows::Turn;
-use crate::values::bound;
 use crate::values::Answer;
 use crate::values::Ending;
 use crate::values::Value;
+use crate::values::bound;
 ghost use mathlib.Core.Path.{_≡_};
 ghost use Prim.Native.Nat.{_+_, _-_, _≤_};
 ghost use lib.ListN.{getD};
@@ -49,7 +49,11 @@ fn turned(ws: &[u16], arities: &[u8], at: usize, o: Op, r: Answer) -> Turn
     let end = r.end;
     match o {
         Op::Succ => after_succ(end, r.left),
-        Op::Handle => after_guard(exception_at(ws, place_past(arities, ws, at, 1)), end, r.left),
+        Op::Handle => after_guard(
+            exception_at(ws, place_past(arities, ws, at, 1)),
+            end,
+            r.left,
+        ),
         Op::If => after_test(end, r.left),
     }
 }
@@ -90,16 +94,9 @@ fn enter(rules: &[u16], n: usize, l: Listed) -> Entered
 
 // The term at a place of ws, with its bindings, so many levels and so many steps.
 pub fn eval<'a>(
-    ws: &[u16],
-    at: usize,
-    standing: &'a [u16],
-    own: &'a [u16],
-    arities: &[u8],
-    standing_index: &[usize],
-    own_index: &[usize],
-    b: [Value; 8],
-    levels: usize,
-    left: u32,
+    ws: &[u16], at: usize,
+    standing: &'a [u16], own: &'a [u16], arities: &[u8], standing_index: &[usize], own_index: &[usize],
+    b: [Value; 8], levels: usize, left: u32,
 ) -> Answer
     requires { ⌜ (levels ≤ 1000) × (left ≤ most) × Small b ⌝ }
     ensures { λ r. ⌜ (r ≡ ev (now (standing .entry)) (now (own .entry)) (now (arities .entry)) (now («standing_index» .entry)) (now («own_index» .entry)) levels (now (ws .entry)) b at left) × Fine levels left r ⌝ }
@@ -151,7 +148,8 @@ pub fn eval<'a>(
                     let zero = Value { succs: 0, base: 1 };
                     let n = arguments_of(arities, w);
                     let l = eval_list(
-                        ws, at + 1, n, 0, [zero; 8], standing, own, arities, standing_index, own_index, b, levels - 1, p,
+                        ws, at + 1, n, 0, [zero; 8],
+                        standing, own, arities, standing_index, own_index, b, levels - 1, p,
                     );
                     let rules = rules_of(standing, own, standing_index, own_index, k, n);
                     let body = enter(rules, n, l);
@@ -160,7 +158,8 @@ pub fn eval<'a>(
                     match t {
                         Turn::Ends(a) => a,
                         Turn::Goes(_, q) => eval(
-                            rules, body.at, standing, own, arities, standing_index, own_index, c, levels - 1, q,
+                            rules, body.at,
+                            standing, own, arities, standing_index, own_index, c, levels - 1, q,
                         ),
                     }
                 }
@@ -175,19 +174,9 @@ pub fn eval<'a>(
 
 // The n arguments from at on, the first of them number i, after the values in vals.
 pub fn eval_list<'a>(
-    ws: &[u16],
-    at: usize,
-    n: usize,
-    i: usize,
-    vals: [Value; 8],
-    standing: &'a [u16],
-    own: &'a [u16],
-    arities: &[u8],
-    standing_index: &[usize],
-    own_index: &[usize],
-    b: [Value; 8],
-    levels: usize,
-    left: u32,
+    ws: &[u16], at: usize, n: usize, i: usize, vals: [Value; 8],
+    standing: &'a [u16], own: &'a [u16], arities: &[u8], standing_index: &[usize], own_index: &[usize],
+    b: [Value; 8], levels: usize, left: u32,
 ) -> Listed
     requires { ⌜ (levels ≤ 1000) × (left ≤ most) × Small b × Small vals × (i + n ≤ 4) ⌝ }
     ensures { λ r. ⌜ (r ≡ listOf (now (arities .entry)) (ev (now (standing .entry)) (now (own .entry)) (now (arities .entry)) (now («standing_index» .entry)) (now («own_index» .entry)) levels) (now (ws .entry)) b n at i vals left) × FineList levels left r ⌝ }
@@ -206,7 +195,8 @@ pub fn eval_list<'a>(
             more[i] = v;
             let next = place_past(arities, ws, at, 1);
             eval_list(
-                ws, next, n - 1, i + 1, more, standing, own, arities, standing_index, own_index, b, levels, p,
+                ws, next, n - 1, i + 1, more,
+                standing, own, arities, standing_index, own_index, b, levels, p,
             )
         }
         Took::Ends(a) => Listed {

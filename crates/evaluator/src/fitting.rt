@@ -1,7 +1,7 @@
 // The rules of a function, and the first of them whose patterns fit the values of a call.
+use crate::values::Value;
 use crate::values::bound;
 use crate::values::with;
-use crate::values::Value;
 use rules::index::span_of;
 use rules::index::word_at;
 ghost use mathlib.Core.Path.{_≡_};
@@ -70,15 +70,11 @@ fn fit(rules: &[u16], at: usize, v: Value, b: [Value; 8]) -> Found
         if k == 0 {
             return misfit_of();
         }
-        return fit(
-            rules,
-            at + 1,
-            Value {
-                succs: k - 1,
-                base: v.base,
-            },
-            b,
-        );
+        let less = Value {
+            succs: k - 1,
+            base: v.base,
+        };
+        return fit(rules, at + 1, less, b);
     }
     if w < 64 {
         if k == 0 {

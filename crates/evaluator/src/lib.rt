@@ -5,6 +5,7 @@ mod fitting;
 mod places;
 mod rows;
 pub mod values;
+
 use crate::evaluation::eval;
 use crate::values::Outcome;
 use crate::values::Value;

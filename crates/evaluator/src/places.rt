@@ -1,8 +1,8 @@
 // What stands at a place of words: what its root is, how many arguments it has, and the place past it.
 use rules::index::word_at;
+use words::terms::Reach;
 use words::terms::arity;
 use words::terms::skip_many;
-use words::terms::Reach;
 ghost use mathlib.Core.Path.{_≡_};
 ghost use Prim.Native.Nat.{_-_, _≤_};
 ghost use lib.ListN.{getD};

@@ -147,6 +147,39 @@ module _ (ks : List ℕ) (find : List ℕ → Fitting) where
     pub site-good : (ws : List ℕ) (at p : ℕ) (f : Fitting) → siteAt ks find ws at ≡ At p f → Good f
     site-good ws at p f e = subst GoodAt e (path-good (drop at ws) 0 at)
 
+-- the place lies within the words
+module _ (ks : List ℕ) (find : List ℕ → Fitting) where
+  abbrev Inside : ℕ → Site → Type 0
+  Inside n (At p f) = p < n
+  Inside n Nothing = Unit {0}
+
+  here-inside : (n : ℕ) (ss : List ℕ) (at : ℕ) → at < n → Inside n (hereAt find ss at)
+  unfolding hereAt
+  here-inside n ss at h = go (isFound (find ss))
+    where
+      go : (b : Bool) → Inside n (pick b (At at (find ss)) Nothing)
+      go true = h
+      go false = tt
+
+  or-inside : (n : ℕ) (a b : Site) → Inside n a → Inside n b → Inside n (orHere a b)
+  or-inside n (At p f) b h k = h
+  or-inside n Nothing b h k = k
+
+  path-inside : (n : ℕ) (ws : List ℕ) (gap at : ℕ) → at + length ws ≤ n → Inside n (path ks find ws gap at)
+  unfolding path
+  path-inside n [] gap at h = tt
+  path-inside n (w ∷ ws) (suc gap) at h = path-inside n ws gap (at + 1) (omega arith)
+  path-inside n (w ∷ ws) zero at h =
+      or-inside n (reached (below ks w ws (at + 1)) (λ p. path ks find ws (p - (at + 1)) (at + 1)) Nothing) (hereAt find (w ∷ ws) at)
+      (deeper (below ks w ws (at + 1)) (λ g. path-inside n ws g (at + 1) (omega arith))) (here-inside n (w ∷ ws) at (omega arith))
+    where
+      deeper : (r : Reach) → ((g : ℕ) → Inside n (path ks find ws g (at + 1))) → Inside n (reached r (λ p. path ks find ws (p - (at + 1)) (at + 1)) Nothing)
+      deeper (End p) k = k (p - (at + 1))
+      deeper Short k = tt
+
+  pub site-inside : (ws : List ℕ) (p : ℕ) (f : Fitting) → siteAt ks find ws 0 ≡ At p f → p < length ws
+  site-inside ws p f e = subst (Inside (length ws)) e (path-inside (length ws) ws 0 0 (omega arith))
+
 -- the rule lies within the list that holds it
 fitting-within : (ks st own si oi ss : List ℕ) → RuleWithin (fittingOf ks st own si oi ss) (length st) (length own)
 fitting-within ks st own si oi ss = go (fittingOf ks st own si oi ss) refl

@@ -110,7 +110,15 @@ pub fn site_from(
     }
     match below(arities, term, at) {
         Reach::Short => here(arities, standing, own, standing_index, own_index, term, at),
-        Reach::End(p) => match site_from(arities, standing, own, standing_index, own_index, term, p) {
+        Reach::End(p) => match site_from(
+            arities,
+            standing,
+            own,
+            standing_index,
+            own_index,
+            term,
+            p,
+        ) {
             Site::At { place, rule } => Site::At { place, rule },
             Site::Nothing => here(arities, standing, own, standing_index, own_index, term, at),
         },

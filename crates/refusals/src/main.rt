@@ -1,21 +1,8 @@
 // Reads lines `PROGRAM QUESTION` in hexadecimal digits, and prints for each by which number and at which place the checker refuses it.
+use input::Input;
 use lines::Decoded;
-
-// What is held of a line that has not ended: its length so far, whether it is over the buffer, and whether the input is at its end.
-struct Held {
-    len: usize,
-    long: bool,
-    over: bool,
-}
-
-// No byte of the next line yet.
-fn fresh() -> Held {
-    Held {
-        len: 0,
-        long: false,
-        over: false,
-    }
-}
+ghost use Prim.Native.Nat.{_≤_};
+ghost use lib.ListN.{length};
 
 // A refusal: which string, the number and the place.
 fn say(about: &[u8], number: u8, place: usize) {
@@ -79,93 +66,31 @@ fn answer_line(line: &[u8]) {
     answer_fields(&line[0..e], &line[f..len]);
 }
 
-// The line that is held has ended.
-fn finish(line: &[u8], held: Held) {
-    let n = held.len;
-    if held.long {
+// One line: its answer, or that it is over its buffer.
+fn answer(line: &[u8], input: Input)
+    requires { ⌜ input .len ≤ length (now line) ⌝ }
+{
+    let n = input.len;
+    if input.long {
         io::write_all(1, b"too long\n");
         return;
     }
-    if n <= line.len() {
-        answer_line(&line[0..n]);
-    }
+    answer_line(&line[0..n]);
 }
 
-// More bytes of the line that is held.
-fn hold(line: &mut [u8], held: Held, part: &[u8]) -> Held {
-    let at = held.len;
-    let n = part.len();
-    let room = line.len();
-    let mut h = held;
-    h.long = true;
-    if held.long {
-        return h;
-    }
-    if room < n {
-        return h;
-    }
-    if room - n < at {
-        return h;
-    }
-    lines::copy_at(line, at, part);
-    Held {
-        len: at + n,
-        long: false,
-        over: false,
-    }
-}
-
-// A part of a line: the last of it, or one with more to come.
-fn line_part(line: &mut [u8], held: Held, part: &[u8], is_last: bool) -> Held {
-    let h = hold(line, held, part);
-    if is_last {
-        finish(line, h);
-        return fresh();
-    }
-    h
-}
-
-// Every line that ends in a chunk of the input, and the start of the next.
-fn take_chunk(line: &mut [u8], held: Held, chunk: &[u8]) -> Held {
-    let len = chunk.len();
-    let mut h = held;
-    let mut at = 0;
-    while at < len {
-        let e = lines::end_of(chunk, at, b'\n');
-        h = line_part(line, h, &chunk[at..e], e < len);
-        at = e + 1;
-    }
-    h
-}
-
-// One read of the input.
-fn read_chunk(line: &mut [u8], held: Held) -> Held {
-    let mut chunk = io::large_buffer();
-    let got = libc::read(0, &mut chunk);
-    if got <= 0 {
-        let mut h = held;
-        h.over = true;
-        return h;
-    }
-    let n = io::count(got, &chunk);
-    take_chunk(line, held, &chunk[..n])
-}
-
-// Reads to the end of the input. A proved loop has to end, and nothing says that the input does: it counts its turns down from a
-// number that no run uses up.
-fn read_all(line: &mut [u8]) {
-    let mut held = fresh();
+// Every line of the input. The turns are counted down, as in `next_line`.
+fn answer_all(chunk: &mut [u8], line: &mut [u8]) {
+    let mut i = input::next_line(chunk, line, input::start());
     let mut turns = u64::MAX;
-    while turns > 0 && !held.over {
-        held = read_chunk(line, held);
+    while turns > 0 && !i.over {
+        answer(line, i);
+        i = input::next_line(chunk, line, i);
         turns -= 1;
-    }
-    if 0 < held.len || held.long {
-        finish(line, held);
     }
 }
 
 fn main() {
+    let mut chunk = [0u8; 65536];
     let mut line = [0u8; 20000];
-    read_all(&mut line);
+    answer_all(&mut chunk, &mut line);
 }

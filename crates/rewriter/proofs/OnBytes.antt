@@ -1,6 +1,7 @@
 -- THE REWRITER FROM THE BYTES: with the lists that a read program comes to, its answer is the theory's, and the first buffer holds the
--- theory's last term. The theory's terms of a read program and question have no variable, so two cases of the code never show here: an
--- exception's word that is a variable's (`exn_of`), and a right side's variable that no part is bound to (`shown_by`).
+-- theory's last term. So the cases of the code that no accepted program reaches show nothing of their own: a variable's word behind fire
+-- (`exn_of`) and a right side's variable that no part is bound to (`shown_by`) have the theory's values; a rule that is not whole, and a
+-- term that ends before its left side does (`apply_rule`), would end a run where the theory's goes on.
 use mathlib.Core.Path.{_≡_, refl, sym, ap, _∙_}
 use mathlib.Core.List.{List, []}
 use Prim.Native.Nat.{ℕ}

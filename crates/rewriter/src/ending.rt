@@ -26,8 +26,8 @@ pub enum Said {
     Big,
 }
 
-// The exception whose word is w. Behind fire stands an exception's word, never a variable's, in every term that a checked program and
-// question come to: there the case of a variable is not reached (`rewriter-on-bytes`).
+// The exception whose word is w. Behind fire a checked program's terms have an exception's word; for a variable's the answer is the
+// theory's, 0 (`exceptionOf`).
 fn exn_of(w: u16) -> u16
     ensures { λ r. ⌜ r ≡ exnW w ⌝ }
 {

@@ -1,5 +1,6 @@
 // The rewriter: a question's words are rewritten in two lent buffers until nothing fits, and the ending is read off.
 pub mod ending;
+
 use crate::ending::Said;
 use crate::ending::said_of;
 use turns::run::start;
@@ -35,7 +36,18 @@ pub fn rewrite<'a>(
     ensures { λ _. ⌜ now (first .exit) ≡ over (padded room (runOn (now (arities .entry)) (now (standing .entry)) (now (own .entry)) (now («standing_index» .entry)) (now («own_index» .entry)) (now (question .entry)) room allowance .term)) (now (first .entry)) ⌝ }
     ensures { λ _. ⌜ now (second .exit) ≡ over (replicate room 0) (now (second .entry)) ⌝ }
 {
-    let ran = start(arities, standing, own, standing_index, own_index, question, first, second, allowance, room);
+    let ran = start(
+        arities,
+        standing,
+        own,
+        standing_index,
+        own_index,
+        question,
+        first,
+        second,
+        allowance,
+        room,
+    );
     let ending = ran.ending;
     let steps = ran.steps;
     let len = ran.len;

@@ -48,9 +48,10 @@ abbrev pub newLen : List ℕ → List ℕ → List ℕ → ℕ
 newLen starts ends [] = 0
 newLen starts ends (w ∷ right) = wordLen starts ends w + newLen starts ends right
 
--- the term t with the words from index at up to end, which a rule's left side fits, replaced by what its right side comes to
+-- the term t with the words from index at up to end, which a rule's left side fits, replaced by what its right side comes to; the
+-- subject is all of t from there on
 abbrev pub stepOf : List ℕ → ℕ → ℕ → List ℕ → List ℕ → List ℕ → List ℕ
-stepOf t at end right starts ends = take at t ++ (new (part at end t) starts ends right ++ drop end t)
+stepOf t at end right starts ends = take at t ++ (new (part at (length t) t) starts ends right ++ drop end t)
 
 -- the answer of a write of s into a room of so many words, and the buffer d after it: where s does not fit, d is as it was
 abbrev pub writtenOf : ℕ → List ℕ → Written

@@ -1,7 +1,7 @@
 // A rewrite step's new term, written into a second buffer: what stands before the rewritten place, the right side with its
 // variables replaced by the parts that they are bound to, what stands behind.
 //
-// A variable v is bound to the words starts[v]..ends[v] of the subject, the words of the rewritten place; one that is bound to
+// A variable v is bound to the words starts[v]..ends[v] of the subject, the words from the rewritten place on; one that is bound to
 // nothing stands for the word 1, as in the theory (`noSubst`).
 use rules::matching::is_var;
 use rules::matching::word;
@@ -144,14 +144,14 @@ pub fn step_into(
     room: usize,
 ) -> Written
     requires { ⌜ (at ≤ end) × ((end ≤ length (now term)) × ((length (now term) ≤ room) × (room ≤ length (now second)))) ⌝ }
-    requires { ⌜ Within (now ends) (end - at) ⌝ }
+    requires { ⌜ Within (now ends) (length (now term) - at) ⌝ }
     requires { ⌜ (length (now right) ≤ 65536) × (room ≤ 65536) ⌝ }
     ensures { λ r. ⌜ r ≡ writtenOf room (stepOf (now (term .entry)) at end (now (right .entry)) (now (starts .entry)) (now (ends .entry))) ⌝ }
     ensures { λ _. ⌜ now (second .exit) ≡ placed room (stepOf (now (term .entry)) at end (now (right .entry)) (now (starts .entry)) (now (ends .entry))) (now (second .entry)) ⌝ }
 {
     let rest = term.len() - end;
     let most = room - rest;
-    match write_right(&mut second[at..most], right, &term[at..end], starts, ends) {
+    match write_right(&mut second[at..most], right, &term[at..], starts, ends) {
         Written::TooBig => Written::TooBig,
         Written::Count(n) => {
             put_around(second, term, at, end, at + n);

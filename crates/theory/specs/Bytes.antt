@@ -268,6 +268,11 @@ abbrev pub refuseOverlaps : List RuleAt → List RuleAt → Result (Unit {0})
 refuseOverlaps before [] = good tt
 refuseOverlaps before (r ∷ rs) = choose (overlapsEarlier r before) (λ u. refuse 10 (r .opened)) (λ u. refuseOverlaps (addLast before r) rs)
 
+-- where the rules are opened
+abbrev pub openedAt : List RuleAt → List ℕ
+openedAt [] = []
+openedAt (r ∷ rs) = r .opened ∷ openedAt rs
+
 -- the functions, each with its rules in order
 abbrev pub defsOf : ℕ → List RuleAt → List Def
 defsOf f [] = []

@@ -25,7 +25,8 @@ use Rattle.records.proofs.Standing.{Standing, terms-stand, StandingOne, term-st
 use Rattle.translator.specs.Opened.{rightAt}
 use Rattle.translator.specs.Listed.{Here, Stand, arityOf, rulesOf, rulesIn, Listed, Small}
 use Rattle.translator.specs.List.{funAt, rulesFor, ownIn}
-use Rattle.translator.specs.Accepted.{openedAt, Accepted, Asked}
+use Rattle.translator.specs.Accepted.{Accepted, Asked}
+use Rattle.theory.specs.Bytes.{openedAt}
 use Rattle.translator.proofs.Laws.{term-count}
 
 -- left sides are terms over what is declared

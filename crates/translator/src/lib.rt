@@ -1,6 +1,6 @@
 // An accepted program's own list of rewrite rules, and a question's words, written from the start of a lent slice.
-pub mod lengths;
-pub mod rules;
+mod lengths;
+mod rules;
 
 use lengths::list_length;
 use rules::put_list;

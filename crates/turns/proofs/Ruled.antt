@@ -6,14 +6,14 @@ use mathlib.Core.List.{List, [], _∷_}
 use Prim.Native.Nat.{ℕ, zero, suc, _+_, _-_, _≤_, _<_}
 use native.Mathlib.Omega.{arith}
 use lib.Dec.{eqb, ltb}
-use lib.ListN.{length, getD, take, drop, set, replicate}
+use lib.ListN.{length, getD, take, drop, set, replicate, drop-of-length-le}
 use borrow.Author.Tests.{lt-ltb, le-ltb, ltb-true}
 use Rattle.theory.specs.Syntax.{pick}
 use Rattle.theory.specs.Words.{isVar}
 use Rattle.words.specs.declared.terms.Reach.{Reach}
 use Rattle.words.specs.declared.terms.Reach.the-variants.{End, Short}
 use Rattle.words.specs.Terms.{skipAt}
-use Rattle.words.proofs.Skips.{skip-reach}
+use Rattle.words.proofs.Skips.{skip-reach, drop-next}
 use Rattle.rules.specs.Matching.{takes, reached, noted, binds}
 use Rattle.rules.specs.declared.matching.Bound.{Bound}
 use Rattle.place.specs.Path.{siteAt}
@@ -24,7 +24,7 @@ use Rattle.splice.specs.Right.{Within, placed, writtenOf, stepOf}
 use Rattle.splice.specs.declared.Written.{Written}
 use Rattle.turns.specs.declared.step.Next.{Next}
 use Rattle.turns.specs.declared.step.Next.the-variants as next
-use Rattle.turns.specs.Next.{left, right, boundBy, ruled, sited, nextW, made, nextIn, placedNext}
+use Rattle.turns.specs.Next.{left, right, boundBy, pastBy, endBy, endOf, ruled, sited, nextW, made, nextIn, placedNext}
 use Rattle.rules.specs.Finding.{fittingOf, ruleOf}
 use Rattle.rules.specs.declared.finding.Fitting.{Fitting}
 
@@ -98,38 +98,83 @@ pub bound-inside : (ks ss left : List ℕ) (b : Bound) (n : ℕ) → b ≡ binds
 bound-inside ks ss left b n e l =
     record { inside = λ v. subst (λ (m : ℕ). getD (b .ends) v 0 ≤ m) l (subst (λ (x : Bound). getD (x .ends) v 0 ≤ length ss) (sym e) (binds-inside ks ss left 0 (replicate 8 0) (replicate 8 0) (zeros-inside (length ss)) v)) }
 
+pub within-more : (ends : List ℕ) (n m : ℕ) → Within ends n → n ≤ m → Within ends m
+within-more ends n m h k = record { inside = λ v. let l = h .inside v in omega (arith, l, k) }
+
+-- ---- the end of what a left side takes
+pub past-var : (ends : List ℕ) (w j : ℕ) → isVar w ≡ true → getD ends (w - 64) 0 ≡ pastBy ends w j
+unfolding pastBy
+past-var ends w j e = sym (ap (λ (b : Bool). pick b (getD ends (w - 64) 0) (j + 1)) e)
+
+pub past-plain : (ends : List ℕ) (w j : ℕ) → isVar w ≡ false → j + 1 ≡ pastBy ends w j
+unfolding pastBy
+past-plain ends w j e = sym (ap (λ (b : Bool). pick b (getD ends (w - 64) 0) (j + 1)) e)
+
+pub past-small : (ends : List ℕ) (w j i most : ℕ) → Within ends most → j ≤ most + i → pastBy ends w j ≤ most + (i + 1)
+unfolding pastBy
+past-small ends w j i most h k = go (isVar w)
+  where
+    go : (b : Bool) → pick b (getD ends (w - 64) 0) (j + 1) ≤ most + (i + 1)
+    go true = let l = h .inside (w - 64) in omega arith
+    go false = omega arith
+
+pub end-done : (ends left : List ℕ) (i j : ℕ) → length left ≤ i → endBy ends (drop i left) j ≡ j
+unfolding endBy
+end-done ends left i j h = ap (λ (l : List ℕ). endBy ends l j) (drop-of-length-le left h)
+
+pub end-next : (ends left : List ℕ) (i j : ℕ) → i < length left → endBy ends (drop i left) j ≡ endBy ends (drop (i + 1) left) (pastBy ends (getD left i 0) j)
+unfolding endBy
+end-next ends left i j h = ap (λ (l : List ℕ). endBy ends l j) (drop-next left i h)
+
 -- ---- a rule's use
-module _ (ks rule ws : List ℕ) (p e : ℕ) where
-  abbrev done : Option (List ℕ)
-  done = some (stepOf ws p e (right rule) (boundBy ks rule (part p e ws) .starts) (boundBy ks rule (part p e ws) .ends))
+module _ (ks rule ws : List ℕ) (p : ℕ) where
+  abbrev B : Bound
+  B = boundBy ks rule (part p (length ws) ws)
+
+  abbrev after : ℕ → Bound → List ℕ → Option (List ℕ)
+  after e b right = pick (ltb (length ws) e) none (some (stepOf ws p e right (b .starts) (b .ends)))
 
   abbrev whole : Bool → Bool → Option (List ℕ)
-  whole a b = pick a none (pick b none done)
+  whole x y = pick x none (pick y none (after (endOf ks rule ws p) B (right rule)))
 
-  pub ruled-short : length rule < 2 → ruled ks rule ws p e ≡ none
+  pub ruled-short : length rule < 2 → ruled ks rule ws p ≡ none
   unfolding ruled
   ruled-short h = ap (λ (b : Bool). whole b (ltb (length rule) (2 + getD rule 0 0 + getD rule 1 0))) (lt-ltb (length rule) 2 h)
 
   module _ (h : 2 ≤ length rule) (l r : ℕ) (el : l ≡ getD rule 0 0) (er : r ≡ getD rule 1 0) where
-    long : ruled ks rule ws p e ≡ whole false (ltb (length rule) (2 + l + r))
+    long : ruled ks rule ws p ≡ whole false (ltb (length rule) (2 + l + r))
     unfolding ruled
     long =
         ap (λ (b : Bool). whole b (ltb (length rule) (2 + getD rule 0 0 + getD rule 1 0))) (le-ltb (length rule) 2 h)
         ∙ sym (ap₂ (λ (l r : ℕ). whole false (ltb (length rule) (2 + l + r))) el er)
 
-    pub ruled-cut : length rule < 2 + l + r → ruled ks rule ws p e ≡ none
+    pub ruled-cut : length rule < 2 + l + r → ruled ks rule ws p ≡ none
     ruled-cut k = long ∙ ap (whole false) (lt-ltb (length rule) (2 + l + r) k)
 
-    pub ruled-is : 2 + l + r ≤ length rule → (b : Bound) → b ≡ binds ks (part p e ws) (take (2 + l - 2) (drop 2 rule)) 0 (replicate 8 0) (replicate 8 0)
-        → ruled ks rule ws p e ≡ some (stepOf ws p e (take (2 + l + r - (2 + l)) (drop (2 + l) rule)) (b .starts) (b .ends))
-    ruled-is k b q =
-        let m : 2 + l - 2 ≡ l = omega arith in
-        let n : 2 + l + r - (2 + l) ≡ r = omega arith in
-        let s : boundBy ks rule (part p e ws) ≡ b
-        = sym (q ∙ ap (λ (i : ℕ). binds ks (part p e ws) (take i (drop 2 rule)) 0 (replicate 8 0) (replicate 8 0)) (m ∙ el)) in
-        long ∙ ap (whole false) (le-ltb (length rule) (2 + l + r) k)
-        ∙ ap (λ (x : Bound). some (stepOf ws p e (right rule) (x .starts) (x .ends))) s
-        ∙ ap₂ (λ (i j : ℕ). some (stepOf ws p e (take i (drop (2 + j) rule)) (b .starts) (b .ends))) (sym (n ∙ er)) (sym el)
+    -- b is what the left side takes, and n the place past that
+    module _ (k : 2 + l + r ≤ length rule) (b : Bound) (q : b ≡ binds ks (part p (length ws) ws) (take (2 + l - 2) (drop 2 rule)) 0 (replicate 8 0) (replicate 8 0)) (n : ℕ)
+        (qn : n ≡ endBy (b .ends) (take (2 + l - 2) (drop 2 rule)) 0) where
+      left-same : take (2 + l - 2) (drop 2 rule) ≡ left rule
+      left-same = let m : 2 + l - 2 ≡ l = omega arith in ap (λ (i : ℕ). take i (drop 2 rule)) (m ∙ el)
+
+      bound-same : B ≡ b
+      bound-same = sym (q ∙ ap (λ (x : List ℕ). binds ks (part p (length ws) ws) x 0 (replicate 8 0) (replicate 8 0)) left-same)
+
+      end-same : endOf ks rule ws p ≡ p + n
+      end-same = ap (λ (x : Bound). p + endBy (x .ends) (left rule) 0) bound-same ∙ ap (λ (x : List ℕ). p + endBy (b .ends) x 0) (sym left-same) ∙ ap (λ (i : ℕ). p + i) (sym qn)
+
+      right-same : right rule ≡ take (2 + l + r - (2 + l)) (drop (2 + l) rule)
+      right-same = let m : 2 + l + r - (2 + l) ≡ r = omega arith in ap₂ (λ (i j : ℕ). take i (drop (2 + j) rule)) (sym (m ∙ er)) (sym el)
+
+      known : ruled ks rule ws p ≡ after (p + n) b (take (2 + l + r - (2 + l)) (drop (2 + l) rule))
+      known =
+          long ∙ ap (whole false) (le-ltb (length rule) (2 + l + r) k) ∙ ap₂ (λ (e : ℕ) (x : Bound). after e x (right rule)) end-same bound-same ∙ ap (after (p + n) b) right-same
+
+      pub ruled-over : length ws < p + n → ruled ks rule ws p ≡ none
+      ruled-over g = known ∙ ap (λ (x : Bool). pick x none (some (stepOf ws p (p + n) (take (2 + l + r - (2 + l)) (drop (2 + l) rule)) (b .starts) (b .ends)))) (lt-ltb (length ws) (p + n) g)
+
+      pub ruled-is : p + n ≤ length ws → ruled ks rule ws p ≡ some (stepOf ws p (p + n) (take (2 + l + r - (2 + l)) (drop (2 + l) rule)) (b .starts) (b .ends))
+      ruled-is g = known ∙ ap (λ (x : Bool). pick x none (some (stepOf ws p (p + n) (take (2 + l + r - (2 + l)) (drop (2 + l) rule)) (b .starts) (b .ends)))) (le-ltb (length ws) (p + n) g)
 
 -- ---- the next term
 module _ (ks standing own si oi ws : List ℕ) where
@@ -139,20 +184,10 @@ module _ (ks standing own si oi ws : List ℕ) where
   abbrev N : Option (List ℕ)
   N = nextW ks standing own si oi ws
 
-  abbrev at : ℕ → Fitting → Option (List ℕ)
-  at p rule = reached (skipAt ks ws p) (λ e. ruled ks (ruleOf standing own rule) ws p e) none
-
   pub next-none : S ≡ Nothing → N ≡ none
   unfolding nextW
-  next-none e = ap (λ (s : Site). sited s at none) e
+  next-none e = ap (λ (s : Site). sited s (λ p rule. ruled ks (ruleOf standing own rule) ws p) none) e
 
-  next-at : (p : ℕ) (rule : Fitting) → S ≡ At p rule → N ≡ at p rule
+  pub next-ruled : (p : ℕ) (rule : Fitting) → S ≡ At p rule → N ≡ ruled ks (ruleOf standing own rule) ws p
   unfolding nextW
-  next-at p rule e = ap (λ (s : Site). sited s at none) e
-
-  module _ (p : ℕ) (rule : Fitting) (e : S ≡ At p rule) where
-    pub next-short : skipAt ks ws p ≡ Short → N ≡ none
-    next-short f = next-at p rule e ∙ ap (λ (r : Reach). reached r (λ e. ruled ks (ruleOf standing own rule) ws p e) none) f
-
-    pub next-ruled : (end : ℕ) → skipAt ks ws p ≡ End end → N ≡ ruled ks (ruleOf standing own rule) ws p end
-    next-ruled end f = next-at p rule e ∙ ap (λ (r : Reach). reached r (λ e. ruled ks (ruleOf standing own rule) ws p e) none) f
+  next-ruled p rule e = ap (λ (s : Site). sited s (λ p rule. ruled ks (ruleOf standing own rule) ws p) none) e

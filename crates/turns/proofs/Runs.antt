@@ -303,9 +303,9 @@ module _ (next : List ℕ → Option (List ℕ)) (room allowance : ℕ) (t : Lis
   pub start-fits : length t ≤ room → runFrom next room allowance t ≡ run next room allowance 0 t
   start-fits h = ap (λ (b : Bool). pick b (run next room allowance 0 t) (record { ending = Big; steps = 0; term = [] })) (le-leb (length t) room h)
 
-  pub started-big : (f f′ : List ℕ) → room < length t → f′ ≡ put 0 (replicate (room - 0) 0) f
+  pub started-big : (f s f′ : List ℕ) → room < length t → f′ ≡ over (padded room (take 0 (source false f s))) f
       → (_≡_ {A = Ran} (record { ending = Big; steps = 0; len = 0 }) (ranOf (runFrom next room allowance t))) × (f′ ≡ over (padded room (runFrom next room allowance t .term)) f)
-  started-big f f′ h q = (sym (ap ranOf (start-big h)), q ∙ ap (λ (l : Last). over (padded room (l .term)) f) (sym (start-big h)))
+  started-big f s f′ h q = (sym (ap ranOf (start-big h)), q ∙ ap (λ (l : Last). over (padded room (l .term)) f) (sym (start-big h)))
 
   pub started : (f x f′ : List ℕ) (r : Ran) → length t ≤ room → room ≤ length f → x ≡ over t f
       → r ≡ ranOf (run next room allowance 0 (take (length t) x)) → f′ ≡ over (padded room (run next room allowance 0 (take (length t) x) .term)) x

@@ -3,32 +3,32 @@ use mathlib.Core.Path.{_≡_, refl, sym, ap, ap₂, _∙_}
 use mathlib.Core.Bool.{Bool, true, false}
 use mathlib.Core.Option.{Option, none, some}
 use mathlib.Core.List.{List, [], _++_, append-nil}
-use Prim.Native.Nat.{ℕ, zero, suc, _+_, _-_}
+use Prim.Native.Nat.{ℕ, zero, suc, _+_, _-_, _≤_}
 use native.Mathlib.Nat.{zero-add}
 use native.Mathlib.Omega.{arith}
-use lib.ListN.{length, take, drop, replicate, length-append}
+use lib.ListN.{length, take, drop, replicate, length-append, length-drop}
 use lib.Seq.{drop-drop, take-append-seam, drop-append-seam, take-all}
 use Rattle.theory.specs.Syntax.{orElse}
 use Rattle.theory.specs.Tree.{Tree, Trees, var, node, [·], _▹_, Subst, noSubst, inst, match, Rule, filled, firstFit, active, step, size}
 use Rattle.theory.specs.Words.{words, Shaped, Shapeds, storedRule, wordsOf}
 use Rattle.theory.proofs.Readability.{length-words}
 use Rattle.theory.proofs.Place.{Site, shift, rootSite, site, sitePart, Written, At, wordsO, step-written}
-use Rattle.words.specs.declared.terms.Reach.the-variants.{End}
-use Rattle.words.specs.Terms.{arityOf, skipAt}
-use Rattle.words.proofs.Trees.{skip-tree}
-use Rattle.rules.specs.Matching.{binds}
+use Rattle.words.specs.Terms.{arityOf}
+use Rattle.words.proofs.Parts.{tail-part}
+use Rattle.rules.specs.Matching.{fits, binds}
 use Rattle.rules.specs.Finding.{fittingOf, isFound, ruleOf}
 use Rattle.rules.specs.declared.matching.Bound.{Bound}
 use Rattle.rules.specs.declared.finding.Fitting.{Fitting}
-use Rattle.rules.proofs.Match.{past-tree, filled-is}
+use Rattle.rules.proofs.Match.{size-pos, past-tree, fits-is, filled-is}
 use Rattle.rules.proofs.Found.{Chosen, Picked}
 use Rattle.place.specs.Path.{siteAt}
 use Rattle.place.proofs.Sites.{whereIs, site-is}
 use Rattle.theory.specs.Buffers.{part}
 use Rattle.splice.specs.Right.{new, stepOf}
 use Rattle.splice.proofs.Filled.{new-filled}
-use Rattle.turns.specs.Next.{ruled, nextW}
+use Rattle.turns.specs.Next.{endBy, ruled, nextW}
 use Rattle.turns.proofs.Ruled.{ruled-is, next-none, next-ruled}
+use Rattle.turns.proofs.Ends.{left-ends}
 
 -- what stands at the site has its shape
 module _ (parts : ℕ → ℕ) (root : Tree → Option Tree) where
@@ -106,43 +106,53 @@ module _ (ks st own si oi : List ℕ) (rs : List Rule)
     stands : drop p ws ≡ words (z .old) ++ w .behind
     stands = ap₂ drop at-place (w .was) ∙ drop-append-seam (w .before) (words (z .old) ++ w .behind)
 
-    the-part : part p e ws ≡ words (z .old)
-    the-part =
-        let m : e - p ≡ size (z .old) = omega arith in
-        ap₂ take (m ∙ sym (length-words (z .old))) stands ∙ take-append-seam (words (z .old)) (w .behind)
+    abbrev subject : List ℕ
+    subject = part p (length ws) ws
+
+    subject-is : subject ≡ words (z .old) ++ w .behind
+    subject-is = tail-part ws p ∙ stands
+
+    ends : e ≤ length ws
+    ends =
+        let a = length-drop p ws in
+        let b = ap length stands ∙ length-append (words (z .old)) (w .behind) in
+        let c = length-words (z .old) in
+        let d = size-pos (z .old) in
+        omega (arith, a, b, c, d)
 
     head-is : take p ws ≡ w .before
     head-is = ap₂ take at-place (w .was) ∙ take-append-seam (w .before) (words (z .old) ++ w .behind)
 
-    used : (ws′ : List ℕ) → Chosen ks (z .old) rs ws′ → ruled ks ws′ ws p e ≡ some us
+    used : (ws′ : List ℕ) → Chosen ks (z .old) rs ws′ → ruled ks ws′ ws p ≡ some us
     used ws′ c =
         let r = c .rule in
         let l = size (r .lhs) in
         let n = size (r .rhs) in
         let f = filled-some (r .rhs) (z .new) (match (r .lhs) (z .old) noSubst) (sym (c .fit) ∙ w .fits) in
         let long : length (storedRule r) ≡ 2 + (l + n) = let a = length-append (words (r .lhs)) (words (r .rhs)) in let b = length-words (r .lhs) in let d = length-words (r .rhs) in omega arith in
-        let bound : List ℕ → Bound = λ left. binds ks (part p e ws) left 0 (replicate 8 0) (replicate 8 0) in
-        let b : Bound = bound (take (2 + l - 2) (drop 2 (storedRule r))) in
-        let made : new (part p e ws) (b .starts) (b .ends) (words (r .rhs)) ≡ words (z .new) =
-        ap (λ (left : List ℕ). new (part p e ws) (bound left .starts) (bound left .ends) (words (r .rhs))) (left-is r)
-        ∙ new-filled (part p e ws) (bound (words (r .lhs))) (words (r .rhs))
-        ∙ filled-is ks (part p e ws) (r .lhs) (z .old) (c .lhs) hz [] (the-part ∙ sym (append-nil (words (z .old)))) (f .0) (f .1 .0) (r .rhs) (c .rhs) ∙ ap words (f .1 .1) in
-        ap (λ (x : List ℕ). ruled ks x ws p e) (c .stored)
-        ∙ ruled-is ks (storedRule r) ws p e (omega arith) l n refl refl (omega arith) b refl
+        let bound : List ℕ → Bound = λ left. binds ks subject left 0 (replicate 8 0) (replicate 8 0) in
+        let left : List ℕ = take (2 + l - 2) (drop 2 (storedRule r)) in
+        let b : Bound = bound left in
+        let does : fits ks subject (words (r .lhs)) 0 ≡ true = fits-is ks subject (r .lhs) (z .old) (c .lhs) hz (w .behind) subject-is ∙ c .does in
+        let past-it : size (z .old) ≡ endBy (b .ends) left 0 =
+        sym (ap (λ (x : List ℕ). endBy (bound x .ends) x 0) (left-is r) ∙ left-ends ks subject (r .lhs) (z .old) (w .behind) (c .lhs) hz subject-is does) in
+        let made : new subject (b .starts) (b .ends) (words (r .rhs)) ≡ words (z .new) =
+        ap (λ (x : List ℕ). new subject (bound x .starts) (bound x .ends) (words (r .rhs))) (left-is r)
+        ∙ new-filled subject (bound (words (r .lhs))) (words (r .rhs))
+        ∙ filled-is ks subject (r .lhs) (z .old) (c .lhs) hz (w .behind) subject-is (f .0) (f .1 .0) (r .rhs) (c .rhs) ∙ ap words (f .1 .1) in
+        ap (λ (x : List ℕ). ruled ks x ws p) (c .stored)
+        ∙ ruled-is ks (storedRule r) ws p (omega arith) l n refl refl (omega arith) b refl (size (z .old)) past-it ends
         ∙ ap (λ (right : List ℕ). some (stepOf ws p e right (b .starts) (b .ends))) (right-is r)
         ∙ ap some (ap₂ _++_ head-is (ap₂ _++_ made (past-tree ws (z .old) (w .behind) p stands)) ∙ sym (w .becomes))
 
-    rule-at : ruled ks (rule (find (drop p ws))) ws p e ≡ some us
+    rule-at : ruled ks (rule (find (drop p ws))) ws p ≡ some us
     rule-at =
-        ap (λ (ss : List ℕ). ruled ks (rule (find ss)) ws p e) stands
+        ap (λ (ss : List ℕ). ruled ks (rule (find ss)) ws p) stands
         ∙ go (isFound (find (words (z .old) ++ w .behind))) (found (z .old) hz (w .behind))
       where
-        go : (b : Bool) → Picked ks (z .old) rs (rule (find (words (z .old) ++ w .behind))) b → ruled ks (rule (find (words (z .old) ++ w .behind))) ws p e ≡ some us
+        go : (b : Bool) → Picked ks (z .old) rs (rule (find (words (z .old) ++ w .behind))) b → ruled ks (rule (find (words (z .old) ++ w .behind))) ws p ≡ some us
         go true c = used (rule (find (words (z .old) ++ w .behind))) c
         go false c = absurd (let y : _≡_ {A = ℕ} 0 1 = cc (c, w .fits) in omega arith)
-
-    skips : skipAt ks ws p ≡ End e
-    skips = skip-tree ks ws p (z .old) (w .behind) hz stands
 
   words-same : (o : Option Tree) → wordsO root o ≡ wordsOf o
   words-same none = refl
@@ -159,4 +169,4 @@ module _ (ks st own si oi : List ℕ) (rs : List Rule)
       go (some z) s hz none w = absurd w
       go (some z) s hz (some us) w =
           let p = 0 + z .place in
-          next-ruled ks st own si oi (words t) p (find (drop p (words t))) s (p + size (z .old)) (skips (words t) us z w hz) ∙ rule-at (words t) us z w hz
+          next-ruled ks st own si oi (words t) p (find (drop p (words t))) s ∙ rule-at (words t) us z w hz

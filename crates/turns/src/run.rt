@@ -61,9 +61,27 @@ fn turn<'a>(
     ensures { λ _. ⌜ Turned (nextW (now (arities .entry)) (now (standing .entry)) (now (own .entry)) (now («standing_index» .entry)) (now («own_index» .entry))) flip room size (now (first .entry)) (now (second .entry)) (now (first .exit)) (now (second .exit)) ⌝ }
 {
     if flip {
-        next_into(arities, standing, own, standing_index, own_index, &second[..size], first, room)
+        next_into(
+            arities,
+            standing,
+            own,
+            standing_index,
+            own_index,
+            &second[..size],
+            first,
+            room,
+        )
     } else {
-        next_into(arities, standing, own, standing_index, own_index, &first[..size], second, room)
+        next_into(
+            arities,
+            standing,
+            own,
+            standing_index,
+            own_index,
+            &first[..size],
+            second,
+            room,
+        )
     }
 }
 
@@ -123,7 +141,18 @@ fn drive<'a>(
     let mut size = len;
     let mut steps = 0;
     loop {
-        let next = turn(arities, standing, own, standing_index, own_index, first, second, flip, size, room);
+        let next = turn(
+            arities,
+            standing,
+            own,
+            standing_index,
+            own_index,
+            first,
+            second,
+            flip,
+            size,
+            room,
+        );
         match decide(next, steps, allowance) {
             Move::Stop(ending, count) => {
                 return Driven {
@@ -183,7 +212,18 @@ pub fn run_in<'a>(
     ensures { λ _. ⌜ now (first .exit) ≡ over (padded room (run (nextW (now (arities .entry)) (now (standing .entry)) (now (own .entry)) (now («standing_index» .entry)) (now («own_index» .entry))) room allowance 0 (take len (now (first .entry))) .term)) (now (first .entry)) ⌝ }
     ensures { λ _. ⌜ now (second .exit) ≡ over (replicate room 0) (now (second .entry)) ⌝ }
 {
-    let d = drive(arities, standing, own, standing_index, own_index, first, second, len, allowance, room);
+    let d = drive(
+        arities,
+        standing,
+        own,
+        standing_index,
+        own_index,
+        first,
+        second,
+        len,
+        allowance,
+        room,
+    );
     let flip = d.flip;
     let size = d.len;
     let ending = d.ending;
@@ -217,8 +257,7 @@ pub fn start<'a>(
 {
     let len = term.len();
     if room < len {
-        zero_from(first, 0, room);
-        zero_from(second, 0, room);
+        tidy(first, second, false, 0, room);
         return Ran {
             ending: Ending::Big,
             steps: 0,
@@ -226,5 +265,16 @@ pub fn start<'a>(
         };
     }
     copy_into(first, term);
-    run_in(arities, standing, own, standing_index, own_index, first, second, len, allowance, room)
+    run_in(
+        arities,
+        standing,
+        own,
+        standing_index,
+        own_index,
+        first,
+        second,
+        len,
+        allowance,
+        room,
+    )
 }

@@ -3,15 +3,15 @@ use place::Site;
 use place::rule_of;
 use place::site_from;
 use rules::matching::bind;
+use rules::matching::is_var;
 use rules::matching::word;
 use splice::Written;
 use splice::step_into;
-use words::terms::Reach;
-use words::terms::skip;
 ghost use mathlib.Core.Path.{_≡_};
 ghost use Prim.Native.Nat.{_≤_};
 ghost use lib.ListN.{length};
-ghost use Rattle.turns.specs.Next.{ruled, nextW, made, nextIn, placedNext};
+ghost use Rattle.splice.specs.Right.{Within};
+ghost use Rattle.turns.specs.Next.{pastBy, endBy, ruled, nextW, made, nextIn, placedNext};
 
 // The answer of a step.
 pub enum Next {
@@ -32,19 +32,45 @@ fn made_by(w: Written) -> Next
     }
 }
 
-// What the rule makes of the term's words from p up to e, which its left side fits: the next term, in the second buffer.
+// The place past what the word w of a left side takes, from the place j on: a variable leads to the end of its part.
+fn past_word(w: u16, ends: &[usize; 8], j: usize) -> usize
+    requires { ⌜ j ≤ 1000000 ⌝ }
+    ensures { λ r. ⌜ r ≡ pastBy (now (ends .entry)) w j ⌝ }
+{
+    if is_var(w) {
+        return ends[word(w - 64)];
+    }
+    j + 1
+}
+
+// The place past what the left side takes, read off the ends of its variables' parts, none of which is past `most`.
+fn left_end(left: &[u16], ends: &[usize; 8], most: usize) -> usize
+    requires { ⌜ Within (now ends) most ⌝ }
+    requires { ⌜ (length (now left) ≤ 65536) × (most ≤ 65536) ⌝ }
+    ensures { λ r. ⌜ r ≡ endBy (now (ends .entry)) (now (left .entry)) 0 ⌝ }
+    ensures small { λ r. ⌜ r ≤ 131072 ⌝ }
+{
+    let mut j = 0;
+    let mut i = 0;
+    while i < left.len() {
+        j = past_word(left[i], ends, j);
+        i += 1;
+    }
+    j
+}
+
+// What the rule makes of the term at the place p, which its left side fits: the next term, in the second buffer.
 fn apply_rule(
     arities: &[u8],
     rule: &[u16],
     term: &[u16],
     p: usize,
-    e: usize,
     second: &mut [u16],
     room: usize,
 ) -> Next
-    requires { ⌜ (p ≤ e) × ((e ≤ length (now term)) × ((length (now term) ≤ room) × ((room ≤ length (now second)) × (room ≤ 65536)))) ⌝ }
-    ensures { λ r. ⌜ r ≡ nextIn room (ruled (now (arities .entry)) (now (rule .entry)) (now (term .entry)) p e) ⌝ }
-    ensures { λ _. ⌜ now (second .exit) ≡ placedNext room (ruled (now (arities .entry)) (now (rule .entry)) (now (term .entry)) p e) (now (second .entry)) ⌝ }
+    requires { ⌜ (p ≤ length (now term)) × ((length (now term) ≤ room) × ((room ≤ length (now second)) × (room ≤ 65536))) ⌝ }
+    ensures { λ r. ⌜ r ≡ nextIn room (ruled (now (arities .entry)) (now (rule .entry)) (now (term .entry)) p) ⌝ }
+    ensures { λ _. ⌜ now (second .exit) ≡ placedNext room (ruled (now (arities .entry)) (now (rule .entry)) (now (term .entry)) p) (now (second .entry)) ⌝ }
 {
     if rule.len() < 2 {
         return Next::Nothing;
@@ -56,9 +82,13 @@ fn apply_rule(
     if rule.len() < to {
         return Next::Nothing;
     }
-    let b = bind(arities, &rule[2..from], &term[p..e]);
+    let b = bind(arities, &rule[2..from], &term[p..]);
     let starts = b.starts;
     let ends = b.ends;
+    let e = p + left_end(&rule[2..from], &ends, term.len());
+    if term.len() < e {
+        return Next::Nothing;
+    }
     made_by(step_into(term, p, e, &rule[from..to], &starts, &ends, second, room))
 }
 
@@ -79,12 +109,9 @@ pub fn next_into<'a>(
 {
     match site_from(arities, standing, own, standing_index, own_index, term, 0) {
         Site::Nothing => Next::Nothing,
-        Site::At { place, rule } => match skip(arities, term, place) {
-            Reach::Short => Next::Nothing,
-            Reach::End(e) => {
-                let part = rule_of(standing, own, rule);
-                apply_rule(arities, part, term, place, e, second, room)
-            }
-        },
+        Site::At { place, rule } => {
+            let part = rule_of(standing, own, rule);
+            apply_rule(arities, part, term, place, second, room)
+        }
     }
 }

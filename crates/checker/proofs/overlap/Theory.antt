@@ -12,7 +12,7 @@ use Rattle.theory.specs.Overlap.{overlaps}
 use Rattle.theory.specs.Bytes.{Result, good, refuse, RuleAt, addLast, overlapsEarlier, refuseOverlaps}
 use Rattle.checker.specs.declared.overlap.Overlap.{Overlap}
 use Rattle.checker.specs.declared.overlap.Overlap.the-variants.{At, Nowhere}
-use Rattle.checker.specs.Answer.{openedAt}
+use Rattle.theory.specs.Bytes.{openedAt}
 use Rattle.checker.specs.Overlap.{clashAt, anyClash, firstClash}
 use Rattle.checker.specs.Written.{bytesOf}
 use Rattle.checker.proofs.overlap.Laws.{clash-other, clash-same}

@@ -16,7 +16,8 @@ use Rattle.theory.specs.Bytes
 use Rattle.checker.specs.declared.side.Stand.the-variants.{Left, Right}
 use Rattle.checker.specs.declared.side.Side.{Side}
 use Rattle.checker.specs.declared.declarations.Top.{Top}
-use Rattle.checker.specs.Answer.{padded, builtins, table, openedAt}
+use Rattle.checker.specs.Answer.{padded, builtins, table}
+use Rattle.theory.specs.Bytes.{openedAt}
 use Rattle.checker.specs.Record.{recordOf, recordAt}
 use Rattle.checker.specs.Side.{noVars, scanFrom, seenIn}
 use Rattle.checker.specs.Declarations.{stopTop, startTop, ownArities, withException, exceptionTurn, withFunction, functionTurn}

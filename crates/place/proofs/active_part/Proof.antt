@@ -1,3 +1,4 @@
+-- `place::active_part` meets its contract.
 use Rattle.place.proofs.active_part.Statement.{statement}
 use Rattle.place.proofs.active_part.Tie as tie
 use native.Mathlib.Omega.{arith}

@@ -44,7 +44,7 @@ part-write-right-end-2 c = search needs
 write-right-requires : tie.Need-write-right-requires
 write-right-requires c κs =
     let start = c .before .before .before .before .before in
-    let len = length-part (start .args .at) (start .args .end) (start .args .term .now) (start .pre .0 .1 .0) in
+    let len = length-part (start .args .at) (length (start .args .term .now)) (start .args .term .now) (omega arith) in
     (subst (Within (start .args .ends .now)) (sym len) (start .pre .1 .0), (start .pre .1 .1 .0, omega (arith, len)))
 
 enum-told : tie.Need-enum-told
@@ -60,7 +60,7 @@ roomy c =
     let wr = c .before .before .before .before in
     let start = wr .before .before .before .before .before .before in
     let args = start .args in
-    step-room (args .term .now) (new (part (args .at) (args .end) (args .term .now)) (args .starts .now) (args .ends .now) (args .right .now)) (args .second .now) (args .at) (args .end) (args .room)
+    step-room (args .term .now) (new (part (args .at) (length (args .term .now)) (args .term .now)) (args .starts .now) (args .ends .now) (args .right .now)) (args .second .now) (args .at) (args .end) (args .room)
     (start .pre .0 .0) (start .pre .0 .1 .0) (start .pre .0 .1 .1 .0) (start .pre .0 .1 .1 .1) (wr .write-right .last .0) (wr .write-right .ensures .1)
     (c .n .given .0 .0) (sym (wr .write-right .ensures .0) ∙ c .n .given .1) .1
 
@@ -84,7 +84,7 @@ returns c =
     let wr = c .before .before .before .before in
     let start = wr .before .before .before .before .before .before in
     let args = start .args in
-    step-big (args .term .now) (new (part (args .at) (args .end) (args .term .now)) (args .starts .now) (args .ends .now) (args .right .now)) (args .second .now) (args .at) (args .end) (args .room)
+    step-big (args .term .now) (new (part (args .at) (length (args .term .now)) (args .term .now)) (args .starts .now) (args .ends .now) (args .right .now)) (args .second .now) (args .at) (args .end) (args .room)
     (start .pre .0 .0) (start .pre .0 .1 .0) (start .pre .0 .1 .1 .0) (start .pre .0 .1 .1 .1) (wr .write-right .last .0) (wr .write-right .ensures .1)
     (sym (wr .write-right .ensures .0) ∙ c .enum-told .given .1)
 
@@ -97,7 +97,7 @@ returns-2 c =
     let wr = after-n .before .before .before .before in
     let start = wr .before .before .before .before .before .before in
     let args = start .args in
-    step-fits (args .term .now) (new (part (args .at) (args .end) (args .term .now)) (args .starts .now) (args .ends .now) (args .right .now)) (args .second .now) (args .at) (args .end) (args .room)
+    step-fits (args .term .now) (new (part (args .at) (length (args .term .now)) (args .term .now)) (args .starts .now) (args .ends .now) (args .right .now)) (args .second .now) (args .at) (args .end) (args .room)
     (start .pre .0 .0) (start .pre .0 .1 .0) (start .pre .0 .1 .1 .0) (start .pre .0 .1 .1 .1) (wr .write-right .last .0) (wr .write-right .ensures .1)
     (after-n .n .given .0 .0) (c .before .before .put-around .last .0) (sym (wr .write-right .ensures .0) ∙ after-n .n .given .1) (c .before .before .put-around .ensures)
 

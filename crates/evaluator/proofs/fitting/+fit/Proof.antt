@@ -90,8 +90,8 @@ fit-cast-with t c = omega (arith, c .before .before .before .shared-slice-known2
 fit-with-requires : (t : ℕ) → fit-lts.Need-with-requires (fit-claims t) (fit-at t) fit.Post
 fit-with-requires t c κs = search needs
 
-fit-add-t8 : (t : ℕ) → fit-lts.Need-add-t8 (fit-claims t) (fit-at t) fit.Post
-fit-add-t8 t c = search needs
+fit-add-t9 : (t : ℕ) → fit-lts.Need-add-t9 (fit-claims t) (fit-at t) fit.Post
+fit-add-t9 t c = search needs
 
 fit-returns-7 : (t : ℕ) → fit-lts.Need-returns-7 (fit-claims t) (fit-at t) fit.Post
 fit-returns-7 t c = rw (fit-step, ne-eqb _ _ (c .before .before .before .if2 .left), ne-eqb _ _ (c .before .before .if3 .left), le-ltb _ _ (c .before .if5 .left)) (rw (c .with .ensures))
@@ -107,8 +107,8 @@ pub +fit-spec : {M : Type 1} → statement M
     (fit-returns-2 t)
     (fit-misfit-of-requires-3 t)
     (fit-returns-3 t)
-    (fit-add-fit t)
     (fit-sub-t14 t)
+    (fit-add-fit t)
     (fit-fit-requires t)
     (fit-returns-4 t)
     (fit-add-t18 t)
@@ -117,5 +117,5 @@ pub +fit-spec : {M : Type 1} → statement M
     (fit-returns-6 t)
     (fit-cast-with t)
     (fit-with-requires t)
-    (fit-add-t8 t)
+    (fit-add-t9 t)
     (fit-returns-7 t)

@@ -1,3 +1,4 @@
+-- `ending::at_root` meets its contract.
 use mathlib.Core.Path.{ap, _∙_}
 use native.Mathlib.Omega.{arith}
 use Rattle.rewriter.specs.declared.ending.Said.the-variants.{Raised}

@@ -1,3 +1,4 @@
+-- `ending::said_of` meets its contract.
 use mathlib.Core.Path.{sym, ap, _∙_}
 use Rattle.turns.specs.declared.run.Ending.{Ending}
 use Rattle.rewriter.specs.Read.{saidW}

@@ -1,15 +1,12 @@
 -- `run::start` meets its contract.
 use Rattle.turns.specs.Next.{nextW}
-use Rattle.turns.proofs.Runs.{started, started-big, zeros-over}
+use Rattle.turns.proofs.Runs.{started, started-big}
 use borrow.Author.Needs.{needs}
 use Rattle.turns.proofs.run.start.Statement.{statement}
 use Rattle.turns.proofs.run.start.Tie as tie
 
-zero-from-requires : tie.Need-zero-from-requires
-zero-from-requires c κs = search needs
-
-zero-from-requires-2 : tie.Need-zero-from-requires-2
-zero-from-requires-2 c κs = search needs
+tidy-requires : tie.Need-tidy-requires
+tidy-requires c κs = search needs
 
 same-length : tie.Need-same-length
 same-length c = search needs
@@ -19,11 +16,10 @@ same-length-2 c = search needs
 
 returns : tie.Need-returns
 returns c =
-    let args = c .before .before .before .before .before .before .before .before .before .before .before .before .before .before .before .before .before .args in
-    let first = c .before .before .before .before .before .before .zero-from in
-    let second = c .before .before .zero-from2 in
-    let both = started-big (nextW (args .arities .now) (args .standing .now) (args .own .now) (args .standing-index .now) (args .own-index .now)) (args .room) (args .allowance) (args .term .now) (args .first .now) (first .last .0) (c .before .before .before .before .before .before .before .before .if1 .taken) (first .ensures) in
-    (both .0, (both .1, zeros-over (args .room) (args .second .now) (second .last .0) (second .ensures)))
+    let g = c .before .before .before .before in
+    let args = g .before .before .before .before .before .before .before .before .before .before .before .before .args in
+    let both = started-big (nextW (args .arities .now) (args .standing .now) (args .own .now) (args .standing-index .now) (args .own-index .now)) (args .room) (args .allowance) (args .term .now) (args .first .now) (args .second .now) (g .tidy .last .0) (g .before .before .before .if1 .taken) (g .tidy .ensures .0) in
+    (both .0, (both .1, g .tidy .ensures .1))
 
 copy-into-requires : tie.Need-copy-into-requires
 copy-into-requires c κs = search needs
@@ -50,8 +46,7 @@ pub start-spec : {M : Type 1} → statement M
 start-spec =
     tie.close
     (tie.spec
-    zero-from-requires
-    zero-from-requires-2
+    tidy-requires
     same-length
     same-length-2
     returns

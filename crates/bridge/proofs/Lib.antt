@@ -1,0 +1,12 @@
+-- Laws by subject. Calls has those about the public calls' own answers; TranslatorWords, EvaluatorAnswers and RewriterAnswers cite the
+-- crates below that write the words and run.
+mod Arities
+mod Judging
+mod Allowing
+mod Lending
+mod TranslatorWords
+mod Endings
+mod EvaluatorAnswers
+mod RewriterAnswers
+mod Telling
+pub mod Calls

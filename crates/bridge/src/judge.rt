@@ -1,0 +1,55 @@
+// Refusals 1 to 12: the program's, then the question's, then the allowances'.
+use crate::report::Report;
+use crate::report::of_byte;
+use crate::report::of_size;
+use crate::report::refused;
+use checker::Checked;
+ghost use mathlib.Core.Path.{_≡_};
+ghost use Prim.Native.Nat.{_<_};
+ghost use Rattle.bridge.specs.Judged.{refusedBy, judgedAs, allowances};
+
+// A refusal by its number; about nothing where that is 0.
+fn refusal_by(number: u8, about: u32, place: usize) -> Report
+    requires { ⌜ place < 4294967296 ⌝ }
+    ensures { λ r. ⌜ r ≡ refusedBy number about place ⌝ }
+{
+    if number == 0 {
+        return refused(0, 0, 0);
+    }
+    refused(of_byte(number), about, of_size(place))
+}
+
+// The refusal, all zero where there is none, and the checker's answer on the program.
+pub struct Judged {
+    pub refusal: Report,
+    pub checked: Checked,
+}
+
+// Refusals 1 to 11, whatever the bytes.
+pub fn judge(program: &[u8], question: &[u8]) -> Judged
+    ensures { λ r. ⌜ r ≡ judgedAs (now (program .entry)) (now (question .entry)) ⌝ }
+{
+    let checked = checker::check_program(program);
+    if checked.number != 0 {
+        let refusal = refusal_by(checked.number, 1, checked.place);
+        return Judged { refusal, checked };
+    }
+    let arities = checked.arities;
+    let end = 16 + checked.functions;
+    let verdict = checker::check_question(question, checked.exceptions, &arities[16..end]);
+    let refusal = refusal_by(verdict.number, 2, verdict.place);
+    Judged { refusal, checked }
+}
+
+// Whether the steps are within 1,000,000, and the levels or the room from 1 to their most.
+pub fn allowed(steps: u32, other: u32, most: u32) -> bool
+    ensures { λ r. ⌜ r ≡ allowances steps other most ⌝ }
+{
+    if 1000000 < steps {
+        return false;
+    }
+    if other < 1 {
+        return false;
+    }
+    other <= most
+}

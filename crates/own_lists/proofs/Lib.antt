@@ -1,0 +1,2 @@
+-- What the checker's answer gives the translator.
+mod Given

@@ -1,0 +1,52 @@
+-- `built::put_value` is safe and ends.
+use mathlib.Core.Path.{_≡_}
+use Prim.Native.Nat.{_-_}
+use lib.ListN.{length}
+use borrow.Author.Needs.{needs}
+use Rattle.own_lists.proofs.built.put_value.Statement.{statement}
+use Rattle.own_lists.proofs.built.put_value.Tie as tie
+
+abbrev Inv-loop : tie.InvT-loop
+Inv-loop dst₀ at n next₀ i₀ dst next i = length dst ≡ length dst₀
+
+abbrev μ-loop : tie.MeasureT-loop
+μ-loop dst₀ at n next₀ i₀ dst next i = n - i
+
+loop-holds : tie.Need-loop-holds Inv-loop μ-loop
+loop-holds c = search needs
+
+put-requires : tie.Need-put-requires Inv-loop μ-loop
+put-requires c κs = search needs
+
+add-i : tie.Need-add-i Inv-loop μ-loop
+add-i c = search needs
+
+loop-less : tie.Need-loop-less Inv-loop μ-loop
+loop-less c = search needs
+
+loop-again : tie.Need-loop-again Inv-loop μ-loop
+loop-again c = search needs
+
+put-requires-2 : tie.Need-put-requires-2 Inv-loop μ-loop
+put-requires-2 c κs = search needs
+
+same-length : tie.Need-same-length Inv-loop μ-loop
+same-length c = search needs
+
+returns : tie.Need-returns Inv-loop μ-loop
+returns c = search needs
+
+pub put-value-spec : {M : Type 1} → statement M
+put-value-spec =
+    tie.close
+    (tie.spec
+    Inv-loop
+    μ-loop
+    loop-holds
+    put-requires
+    add-i
+    loop-less
+    loop-again
+    put-requires-2
+    same-length
+    returns)

@@ -1,0 +1,67 @@
+-- `shown::show_rules` is safe and ends.
+use Prim.Native.Nat.{_-_}
+use lib.ListN.{length}
+use borrow.Author.Needs.{needs}
+use Rattle.own_lists.proofs.shown.show_rules.Statement.{statement}
+use Rattle.own_lists.proofs.shown.show_rules.Tie as tie
+
+abbrev Inv-loop : tie.InvT-loop
+Inv-loop own i₀ left₀ i left = Unit {0}
+
+abbrev μ-loop : tie.MeasureT-loop
+μ-loop own i₀ left₀ i left = length own - i
+
+loop-holds : tie.Need-loop-holds Inv-loop μ-loop
+loop-holds c = search needs
+
+left-at-requires : tie.Need-left-at-requires Inv-loop μ-loop
+left-at-requires c κs = search needs
+
+mul-wide : tie.Need-mul-wide Inv-loop μ-loop
+mul-wide c = search needs
+
+shared-slice-read-wide : tie.Need-shared-slice-read-wide Inv-loop μ-loop
+shared-slice-read-wide c = search needs
+
+wide-requires : tie.Need-wide-requires Inv-loop μ-loop
+wide-requires c κs = search needs
+
+show-number-requires : tie.Need-show-number-requires Inv-loop μ-loop
+show-number-requires c κs = search needs
+
+behind-requires : tie.Need-behind-requires Inv-loop μ-loop
+behind-requires c κs = search needs
+
+sub-left : tie.Need-sub-left Inv-loop μ-loop
+sub-left c = search needs
+
+add-i : tie.Need-add-i Inv-loop μ-loop
+add-i c = search needs
+
+loop-less : tie.Need-loop-less Inv-loop μ-loop
+loop-less c = search needs
+
+loop-again : tie.Need-loop-again Inv-loop μ-loop
+loop-again c = search needs
+
+returns : tie.Need-returns Inv-loop μ-loop
+returns c = search needs
+
+pub show-rules-spec : {M : Type 1} → statement M
+show-rules-spec =
+    tie.close
+    (tie.spec
+    Inv-loop
+    μ-loop
+    loop-holds
+    left-at-requires
+    mul-wide
+    shared-slice-read-wide
+    wide-requires
+    show-number-requires
+    behind-requires
+    sub-left
+    add-i
+    loop-less
+    loop-again
+    returns)

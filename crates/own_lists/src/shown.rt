@@ -1,0 +1,118 @@
+// Lists and answers on standard output.
+use super::lists::Answer;
+ghost use Prim.Native.Nat.{_<_, _≤_};
+ghost use lib.ListN.{length};
+
+pub fn show_number(n: usize) {
+    io::print_decimal(1, n as u64);
+}
+
+pub fn show_answer(answer: Answer) {
+    match answer {
+        Answer::Refused => {
+            io::write_all(1, b"refused");
+        }
+        Answer::Short => {
+            io::write_all(1, b"short");
+        }
+        Answer::Count(n) => {
+            io::write_all(1, b"count ");
+            show_number(n);
+        }
+    }
+}
+
+fn wide(w: u16) -> usize
+    ensures { λ r. ⌜ r < 65536 ⌝ }
+{
+    w as usize
+}
+
+// Whether this is the last word of a rule: so many are left of it.
+fn behind(left: usize) {
+    if left == 1 {
+        io::write_all(1, b"\n");
+    } else {
+        io::write_all(1, b" ");
+    }
+}
+
+// How many words the rule at i has, its two counts among them.
+fn rule_size(own: &[u16], i: usize) -> usize
+    requires { ⌜ i < length (now own) ⌝ }
+    ensures { λ r. ⌜ 0 < r ⌝ }
+{
+    if i + 1 < own.len() {
+        return 2 + wide(own[i]) + wide(own[i + 1]);
+    }
+    1
+}
+
+// So many words are left of the rule; where none is, the next begins at i.
+fn left_at(own: &[u16], i: usize, left: usize) -> usize
+    requires { ⌜ i < length (now own) ⌝ }
+    ensures { λ r. ⌜ 0 < r ⌝ }
+{
+    if left == 0 {
+        return rule_size(own, i);
+    }
+    left
+}
+
+// A rule to a line.
+pub fn show_rules(own: &[u16]) {
+    let mut i = 0;
+    let mut left = 0;
+    while i < own.len() {
+        let here = left_at(own, i, left);
+        show_number(wide(own[i]));
+        behind(here);
+        left = here - 1;
+        i += 1;
+    }
+}
+
+// Words to a line.
+pub fn show_words(ws: &[u16]) {
+    let mut i = 0;
+    while i < ws.len() {
+        show_number(wide(ws[i]));
+        i += 1;
+        behind(ws.len() - i + 1);
+    }
+}
+
+// How many words are as they were before.
+pub fn unchanged(own: &[u16]) -> usize {
+    let mut count = 0;
+    let mut i = 0;
+    while i < own.len() {
+        count += same(own[i]);
+        i += 1;
+    }
+    count
+}
+
+fn same(w: u16) -> usize
+    ensures { λ r. ⌜ r ≤ 1 ⌝ }
+{
+    if w == 65535 {
+        return 1;
+    }
+    0
+}
+
+// One number by which lists that differ are told apart.
+pub fn sum_of(own: &[u16]) -> usize {
+    let mut sum = 0;
+    let mut i = 0;
+    while i < own.len() {
+        sum = mixed(sum, wide(own[i]));
+        i += 1;
+    }
+    sum
+}
+
+fn mixed(sum: usize, w: usize) -> usize {
+    (sum % 1000003 * 31 + w % 65536) % 1000003
+}

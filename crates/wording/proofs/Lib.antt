@@ -1,0 +1,2 @@
+-- The laws that the proofs cite.
+mod Laws
