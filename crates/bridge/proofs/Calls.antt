@@ -1,17 +1,18 @@
--- THE CALLS' OWN ANSWERS: a report loses nothing; both engines report the same; larger allowances change nothing; a refusal changes no lent
--- word; and each call's statement leaves one result.
+-- THE CALLS' OWN ANSWERS: a report loses nothing, and is a refusal or an answer; both engines report the same; larger allowances change nothing;
+-- a refusal changes no lent word; and each call's statement leaves one result.
 use Prim.Native.Nat.{ℕ, zero, suc, _≤_}
-use mathlib.Core.Path.{_≡_, refl, sym, ap, _∙_}
-use mathlib.Core.Logic.{_≢_}
+use mathlib.Core.Path.{_≡_, refl, sym, ap, _∙_, subst}
+use mathlib.Core.Logic.{_≢_, _⊎_, inl, inr}
 use mathlib.Core.Bool.{Bool, true, false, _&&_}
 use mathlib.Core.List.{List}
 use native.Mathlib.Omega.{arith}
 use lib.Dec.{eqb}
 use Rattle.theory.specs.Syntax.{Base, zeroB, trueB, falseB, Val, base, up, height, Term, pick, choose}
 use Rattle.theory.specs.Endings.{value, raised, stuck, tooDeep, Said, is, outOfSteps, tooBig, Answer, says, Final}
-use Rattle.theory.specs.Answers.{About, theProgram, theQuestion, Reply, refusal, answer, Verdict, refuses, accepts, judged, stepsAllowed, roomAllowed, evaluate, Rewritten, unchanged, slicesLongEnough, performed, rewrittenBy, rewrite}
+use Rattle.theory.specs.Answers.{About, theProgram, theQuestion, Reply, refusal, answer, Verdict, refuses, accepts, onQuestion, onProgram, judged, stepsAllowed, levelsAllowed, roomAllowed, evaluated, evaluate, Rewritten, unchanged, slicesLongEnough, performed, rewrittenBy, rewrite}
 use Rattle.theory.specs.Turns.{rewriter}
-use Rattle.theory.specs.Bytes.{Book, programOf}
+use Rattle.theory.specs.Bytes.{Result, refused, good, Book, readProgram, programOf, readQuestion}
+use Rattle.theory.proofs.Bounds.{program-refusal-small, question-refusal-small}
 use Rattle.theory.proofs.PublicCalls.{calls-agree, evaluate-stays, rewrite-stays}
 use Rattle.bridge.specs.declared.report.Report.{Report}
 use Rattle.bridge.specs.Report.{baseNumber, refusalReport, endingReport, saidReport, answerReport, reportOf}
@@ -57,6 +58,84 @@ reply-read (answer a) = by-said (a .said) (a .steps)
 
 pub same-reply : (v w : Reply) → reportOf v ≡ reportOf w → v ≡ w
 same-reply v w e = sym (reply-read v) ∙ ap replyOf e ∙ reply-read w
+
+-- A REPORT IS A REFUSAL OR AN ANSWER: its number is from 1 to 13 and its ending 0, or its number 0 and its ending from 1 to 6.
+abbrev pub IsRefusal : Report → Type 0
+IsRefusal r = (1 ≤ r .number) × (r .number ≤ 13) × (r .ending ≡ 0)
+
+abbrev pub IsAnswer : Report → Type 0
+IsAnswer r = (r .number ≡ 0) × (1 ≤ r .ending) × (r .ending ≤ 6)
+
+abbrev Numbered : Reply → Type 0
+Numbered (refusal n a p) = (1 ≤ n) × (n ≤ 13)
+Numbered (answer a) = Unit {0}
+
+abbrev Judged : Verdict → Type 0
+Judged (refuses n a p) = (1 ≤ n) × (n ≤ 13)
+Judged (accepts s t) = Unit {0}
+
+judged-numbered : (p q : List ℕ) → Judged (judged p q)
+unfolding judged
+judged-numbered p q = by-program (readProgram p) refl
+  where
+    by-question : (s : Book) (r : Result Term) → readQuestion (s .decls) q ≡ r → Judged (onQuestion s r)
+    by-question s (refused r) e = let b = question-refusal-small (s .decls) q r e in (b .1, omega (arith, b .2))
+    by-question s (good t) e = tt
+
+    by-program : (r : Result Book) → readProgram p ≡ r → Judged (onProgram r q)
+    by-program (refused r) e = let b = program-refusal-small p r e in (b .1, omega (arith, b .2))
+    by-program (good s) e = by-question s (readQuestion (s .decls) q) refl
+
+choose-numbered : (b : Bool) (x y : Unit {0} → Reply) → Numbered (x tt) → Numbered (y tt) → Numbered (choose b x y)
+choose-numbered true x y h k = h
+choose-numbered false x y h k = k
+
+evaluate-numbered : (p q : List ℕ) (steps levels : ℕ) → Numbered (evaluate p q steps levels)
+unfolding evaluate
+evaluate-numbered p q steps levels = by-verdict (judged p q) (judged-numbered p q)
+  where
+    by-verdict : (v : Verdict) → Judged v → Numbered (evaluated steps levels v)
+    by-verdict (refuses n a place) h = h
+    by-verdict (accepts s t) h = choose-numbered (stepsAllowed steps && levelsAllowed levels) _ _ tt (omega arith, omega arith)
+
+rewrite-numbered : (p q : List ℕ) (steps room : ℕ) (own first second : List ℕ) → Numbered (rewrite p q steps room own first second .reply)
+unfolding rewrite
+rewrite-numbered p q steps room own first second = by-verdict (judged p q) (judged-numbered p q)
+  where
+    by-slices : (s : Book) (t : Term) (b : Bool)
+        → Numbered (choose b (λ u. performed (programOf s) t steps room own first second) (λ u. unchanged (refusal 13 theProgram 0) own first second) .reply)
+    by-slices s t true = tt
+    by-slices s t false = (omega arith, omega arith)
+
+    by-allowance : (s : Book) (t : Term) (b : Bool)
+        → Numbered (choose b (λ u. choose (slicesLongEnough (programOf s) room own first second) (λ u. performed (programOf s) t steps room own first second) (λ u. unchanged (refusal 13 theProgram 0) own first second)) (λ u. unchanged (refusal 12 theProgram 0) own first second) .reply)
+    by-allowance s t true = by-slices s t (slicesLongEnough (programOf s) room own first second)
+    by-allowance s t false = (omega arith, omega arith)
+
+    by-verdict : (v : Verdict) → Judged v → Numbered (rewrittenBy steps room own first second v .reply)
+    by-verdict (refuses n a place) h = h
+    by-verdict (accepts s t) h = by-allowance s t (stepsAllowed steps && roomAllowed room)
+
+either : (w : Reply) → Numbered w → IsRefusal (reportOf w) ⊎ IsAnswer (reportOf w)
+unfolding reportOf refusalReport answerReport endingReport
+either (refusal n a p) h = inl (h .0, h .1, refl)
+either (answer a) h = inr (by-said (a .said) (a .steps))
+  where
+    by-said : (m : Said) (c : ℕ) → IsAnswer (saidReport m c)
+    by-said (is (value v)) c = (refl, omega arith, omega arith)
+    by-said (is (raised e)) c = (refl, omega arith, omega arith)
+    by-said (is (stuck s)) c = (refl, omega arith, omega arith)
+    by-said (is tooDeep) c = (refl, omega arith, omega arith)
+    by-said outOfSteps c = (refl, omega arith, omega arith)
+    by-said tooBig c = (refl, omega arith, omega arith)
+
+pub evaluate-reports : (p q : List ℕ) (steps levels : ℕ) (r : Report) → r ≡ reportOf (evaluate p q steps levels) → IsRefusal r ⊎ IsAnswer r
+evaluate-reports p q steps levels r e =
+    subst (λ (x : Report). IsRefusal x ⊎ IsAnswer x) (sym e) (either (evaluate p q steps levels) (evaluate-numbered p q steps levels))
+
+pub rewrite-reports : (p q : List ℕ) (steps room : ℕ) (own first second : List ℕ) (r : Report) → r ≡ reportOf (rewrite p q steps room own first second .reply) → IsRefusal r ⊎ IsAnswer r
+rewrite-reports p q steps room own first second r e =
+    subst (λ (x : Report). IsRefusal x ⊎ IsAnswer x) (sym e) (either (rewrite p q steps room own first second .reply) (rewrite-numbered p q steps room own first second))
 
 -- AN ANSWER is a report whose ending is not 0
 record Answered (w : Reply) (r : Report) : Type 0 where
