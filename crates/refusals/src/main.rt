@@ -89,8 +89,16 @@ fn answer_all(chunk: &mut [u8], line: &mut [u8]) {
     }
 }
 
+// A question has no ceiling of its own in bytes: this one goes past its words at the 513th.
+fn long_question() {
+    let program = [0x04u8];
+    let question = [0x11u8; 100000];
+    judge(&program, &question);
+}
+
 fn main() {
     let mut chunk = [0u8; 65536];
     let mut line = [0u8; 20000];
     answer_all(&mut chunk, &mut line);
+    long_question();
 }
