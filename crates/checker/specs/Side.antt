@@ -4,9 +4,9 @@ use mathlib.Core.Bool.{Bool, true, false}
 use mathlib.Core.List.{List, [], _∷_}
 use lib.ListN.{length, getD, set}
 use lib.Dec.{eqb, leb}
-use Rattle.theory.specs.Bytes.{Where, onLeft, onRight, inQuestion, has, Result, refused, good, TermRecord, constantRecord, succRecord, ifRecord, variableRecord, raiseRecord, handleRecord, callRecord, recordParts, recordWords}
+use Rattle.theory.specs.Bytes.{Where, onLeft, onRight, inQuestion, Result, refused, good, TermRecord, constantRecord, succRecord, ifRecord, variableRecord, raiseRecord, handleRecord, callRecord, recordParts, recordWords}
 use Rattle.theory.specs.Bytes
-use Rattle.theory.specs.Syntax.{choose, pick}
+use Rattle.theory.specs.Syntax.{elem, choose, pick}
 use Rattle.checker.specs.declared.side.Stand.{Stand}
 use Rattle.checker.specs.declared.side.Stand.the-variants.{Left, Right, Asked}
 use Rattle.checker.specs.declared.side.Side.{Side}
@@ -110,7 +110,7 @@ standOf inQuestion = Asked
 
 -- a list of variables as eight booleans
 abbrev pub bits : List ℕ → List Bool
-bits xs = has 0 xs ∷ has 1 xs ∷ has 2 xs ∷ has 3 xs ∷ has 4 xs ∷ has 5 xs ∷ has 6 xs ∷ has 7 xs ∷ []
+bits xs = elem 0 xs ∷ elem 1 xs ∷ elem 2 xs ∷ elem 3 xs ∷ elem 4 xs ∷ elem 5 xs ∷ elem 6 xs ∷ elem 7 xs ∷ []
 
 -- the variables seen, from the theory's `Where`
 abbrev pub seenIn : Where → List Bool

@@ -7,7 +7,7 @@ use mathlib.Core.Option.{Option, none, some}
 use native.Mathlib.Omega.{arith}
 use lib.Dec.{T, eqb, leb, ltb, leb→le}
 use lib.ListN.{length, length-append}
-use Rattle.theory.specs.Syntax.{Base, zeroB, trueB, falseB, Val, base, up, height, Term, const, succ, tvar, raise, handle, cond, call, Terms, tnil, tcons, Pat, pbase, psucc, pvar, Def, Fun, Program, Bindings, bindValue, nothingBound, sameBase, andThen, orElse, fit, fits, Found, found, chosen, pick, choose}
+use Rattle.theory.specs.Syntax.{elem, Base, zeroB, trueB, falseB, Val, base, up, height, Term, const, succ, tvar, raise, handle, cond, call, Terms, tnil, tcons, Pat, pbase, psucc, pvar, Def, Fun, Program, Bindings, bindValue, nothingBound, sameBase, andThen, orElse, fit, fits, Found, found, chosen, pick, choose}
 use Rattle.theory.specs.Builtins.{builtinFuns, nthFun, funOf, numbersOf}
 use Rattle.theory.specs.Endings.{Ending, value, raised, stuck, tooDeep, Said, is, outOfSteps, tooBig, Answer, says}
 use Rattle.theory.specs.Cost.{Cost, paying, after, Evaluating, succRow, handleRow, ifRow, Args, vals, ended, ArgCost, consRow, argRow, evalArgs, bodyRow, callRow, eval, cut, evaluator}
@@ -15,7 +15,7 @@ use Rattle.theory.specs.Tree.{Tree, Trees, var, node, [·], _▹_, first
 use Rattle.theory.specs.Words.{words, storedRule, storedRules}
 use Rattle.theory.specs.Translation.{rules, baseT, exnT, fireT, guardT, selectT, isDataT, aux, _⇒_, tree, patT, patTs, numbers, gather, raiseRule, handleRule, sameRule, otherRule, exnRules, variables, argRule, entryRule, ownRules, funRules, ownList}
 use Rattle.theory.specs.Turns.{underSucc, exceptionOf, readOff, readOffPart, turn, oneMore, runInRoom, rewriter}
-use Rattle.theory.specs.Bytes.{TermRecord, constantRecord, succRecord, ifRecord, variableRecord, raiseRecord, handleRecord, callRecord, recordParts, recordWords, NextRecord, noneLeft, cutShort, nextIs, bodyLength, withBody, nextRecord, Refusal, Result, refused, good, refuse, ifGood, Declared, nthArity, orRefuse4, termRecord, Where, onLeft, onRight, inQuestion, has, allowed, ceiling, Side, addRecord, readTermRecord, readSide, RuleAt, varsOf, Book, ruleCount, addLast, orRefuse, readTopRecord, readRecords, overlapsEarlier, refuseOverlaps, defsOf, funsOf, emptyBook, readProgram, programOf, readQuestion}
+use Rattle.theory.specs.Bytes.{TermRecord, constantRecord, succRecord, ifRecord, variableRecord, raiseRecord, handleRecord, callRecord, recordParts, recordWords, NextRecord, noneLeft, cutShort, nextIs, bodyLength, withBody, nextRecord, Refusal, Result, refused, good, refuse, ifGood, Declared, nthArity, orRefuse4, termRecord, Where, onLeft, onRight, inQuestion, allowed, ceiling, Side, addRecord, readTermRecord, readSide, RuleAt, varsOf, Book, ruleCount, addLast, orRefuse, readTopRecord, readRecords, overlapsEarlier, refuseOverlaps, defsOf, funsOf, emptyBook, readProgram, programOf, readQuestion}
 use Rattle.theory.specs.Encoding.{patWords, patsWords, Each, ValidRule}
 use Rattle.theory.proofs.Tests.{and-left, and-right, le-of-leb, lt-of-leb, leb-false, eq-of-eqb, ne-of-eqb}
 use Rattle.theory.proofs.Readability.{length-words}
@@ -290,14 +290,14 @@ module _ (m : ℕ) where
   allowed-within (onLeft xs) p (constantRecord b) l = tt
   allowed-within (onLeft xs) p succRecord l = tt
   allowed-within (onLeft xs) p ifRecord l = small m 5 p l tt
-  allowed-within (onLeft xs) p (variableRecord x) l = pick-within m Any (has x xs) (refuse 6 p) (good (onLeft (x ∷ xs))) (small m 6 p l tt) tt
+  allowed-within (onLeft xs) p (variableRecord x) l = pick-within m Any (elem x xs) (refuse 6 p) (good (onLeft (x ∷ xs))) (small m 6 p l tt) tt
   allowed-within (onLeft xs) p (raiseRecord e) l = small m 5 p l tt
   allowed-within (onLeft xs) p (handleRecord e) l = small m 5 p l tt
   allowed-within (onLeft xs) p (callRecord k n) l = small m 5 p l tt
   allowed-within (onRight xs) p (constantRecord b) l = tt
   allowed-within (onRight xs) p succRecord l = tt
   allowed-within (onRight xs) p ifRecord l = tt
-  allowed-within (onRight xs) p (variableRecord x) l = pick-within m Any (has x xs) (good (onRight xs)) (refuse 7 p) tt (small m 7 p l tt)
+  allowed-within (onRight xs) p (variableRecord x) l = pick-within m Any (elem x xs) (good (onRight xs)) (refuse 7 p) tt (small m 7 p l tt)
   allowed-within (onRight xs) p (raiseRecord e) l = tt
   allowed-within (onRight xs) p (handleRecord e) l = tt
   allowed-within (onRight xs) p (callRecord k n) l = tt

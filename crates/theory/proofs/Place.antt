@@ -1,10 +1,8 @@
--- Where a step happens among the words: the words before it stay, the new words stand in the middle, the rest follows. And the way down
--- that finds the place: at each place of the path, see whether a rule fits, and keep the deepest.
+-- Where a step happens among the words: the words before it stay, the new words stand in the middle, the rest follows.
 use Prim.Native.Nat.{ℕ, zero, suc, _+_}
 use mathlib.Core.Path.{_≡_, refl, sym, ap, ap₂, _∙_}
 use mathlib.Core.List.{List, [], _∷_, _++_, append-assoc, append-nil}
 use mathlib.Core.Option.{Option, none, some}
-use native.Mathlib.Omega.{arith}
 use lib.ListN.{length, length-append}
 use Rattle.theory.specs.Syntax.{orElse}
 use Rattle.theory.specs.Tree.{Tree, Trees, var, node, [·], _▹_, active, inside, first, later, step, stepPart, size}
@@ -121,47 +119,3 @@ module _ (root : Tree → Option Tree) where
     part-written (t ▹ ts) zero = tt
     part-written (t ▹ ts) (suc zero) = at-first t ts (site t) (step root t) (step-written t)
     part-written (t ▹ ts) (suc (suc i)) = at-later t ts (sitePart ts (suc i)) (stepPart root ts (suc i)) (part-written ts (suc i))
-
-  -- the way down, with the deepest place so far
-  abbrev mark : ℕ → Option Tree → Option ℕ → Option ℕ
-  mark p none best = best
-  mark p (some u) best = some p
-
-  abbrev mutual
-    pub deepest : Tree → ℕ → Option ℕ → Option ℕ
-    deepest (var x) p best = best
-    deepest (node s ts) p best = deepestPart ts (active s) (p + 1) (mark p (root (node s ts)) best)
-
-    pub deepestPart : Trees → ℕ → ℕ → Option ℕ → Option ℕ
-    deepestPart [·] i p best = best
-    deepestPart (t ▹ ts) zero p best = best
-    deepestPart (t ▹ ts) (suc zero) p best = deepest t p best
-    deepestPart (t ▹ ts) (suc (suc i)) p best = deepestPart ts (suc i) (p + size t) best
-
-  abbrev placed : ℕ → Option Site → Option ℕ → Option ℕ
-  placed p none best = best
-  placed p (some z) best = some (p + z .place)
-
-  placed-shift : (p n : ℕ) (z : Option Site) (best : Option ℕ) → placed (p + n) z best ≡ placed p (shift n z) best
-  placed-shift p n none best = refl
-  placed-shift p n (some z) best = ap some (omega arith)
-
-  placed-root : (p : ℕ) (t : Tree) (o : Option Tree) (z : Option Site) (best : Option ℕ) → placed p z (mark p o best) ≡ placed p (orElse z (rootSite t o)) best
-  placed-root p t none none best = refl
-  placed-root p t (some u) none best = ap some (omega arith)
-  placed-root p t o (some z) best = refl
-
-  mutual
-    pub deepest-is : (t : Tree) (p : ℕ) (best : Option ℕ) → deepest t p best ≡ placed p (site t) best
-    deepest-is (var x) p best = refl
-    deepest-is (node s ts) p best =
-        deepestPart-is ts (active s) (p + 1) (mark p (root (node s ts)) best)
-        ∙ placed-shift p 1 (sitePart ts (active s)) (mark p (root (node s ts)) best)
-        ∙ placed-root p (node s ts) (root (node s ts)) (shift 1 (sitePart ts (active s))) best
-
-    deepestPart-is : (ts : Trees) (i p : ℕ) (best : Option ℕ) → deepestPart ts i p best ≡ placed p (sitePart ts i) best
-    deepestPart-is [·] i p best = refl
-    deepestPart-is (t ▹ ts) zero p best = refl
-    deepestPart-is (t ▹ ts) (suc zero) p best = deepest-is t p best
-    deepestPart-is (t ▹ ts) (suc (suc i)) p best =
-        deepestPart-is ts (suc i) (p + size t) best ∙ placed-shift p (size t) (sitePart ts (suc i)) best

@@ -7,10 +7,10 @@ use mathlib.Core.List.{List, [], _∷_, _++_, append-assoc, append-nil}
 use native.Mathlib.Omega.{arith}
 use lib.Dec.{eqb, leb, ltb}
 use lib.ListN.{length}
-use Rattle.theory.specs.Syntax.{pick, choose}
+use Rattle.theory.specs.Syntax.{elem, pick, choose}
 use Rattle.theory.specs.Builtins.{builtinFuns, nthFun}
 use Rattle.theory.specs.Overlap.{overlaps}
-use Rattle.theory.specs.Bytes.{TermRecord, constantRecord, succRecord, ifRecord, variableRecord, raiseRecord, handleRecord, callRecord, recordParts, recordWords, NextRecord, noneLeft, cutShort, nextIs, nextRecord, Result, refused, good, refuse, ifGood, Declared, nthArity, orRefuse4, termRecord, Where, onLeft, onRight, inQuestion, has, allowed, ceiling, addRecord, readTermRecord, readSide, RuleAt, varsOf, Book, ruleCount, addLast, orRefuse, readTopRecord, readRecords, overlapsEarlier, refuseOverlaps, emptyBook, readProgram, readQuestion}
+use Rattle.theory.specs.Bytes.{TermRecord, constantRecord, succRecord, ifRecord, variableRecord, raiseRecord, handleRecord, callRecord, recordParts, recordWords, NextRecord, noneLeft, cutShort, nextIs, nextRecord, Result, refused, good, refuse, ifGood, Declared, nthArity, orRefuse4, termRecord, Where, onLeft, onRight, inQuestion, allowed, ceiling, addRecord, readTermRecord, readSide, RuleAt, varsOf, Book, ruleCount, addLast, orRefuse, readTopRecord, readRecords, overlapsEarlier, refuseOverlaps, emptyBook, readProgram, readQuestion}
 use Rattle.theory.specs.Encoding.{Each, NotOverlapping, NoneOverlap, Some, Overlaps, OverlapAt}
 use Rattle.theory.proofs.Tests.{T→true, true→T, leb-true, le-of-leb, eqb-true, eq-of-eqb, ne-of-eqb}
 use Rattle.theory.proofs.OverlapMeaning.{overlap-exactly}
@@ -58,14 +58,14 @@ allowed-not : (w : Where) (p : ℕ) (t : TermRecord) → NotTen (allowed w p t)
 allowed-not (onLeft xs) p (constantRecord b) = tt
 allowed-not (onLeft xs) p succRecord = tt
 allowed-not (onLeft xs) p ifRecord = other 5 refl
-allowed-not (onLeft xs) p (variableRecord x) = pick-not (has x xs) (refuse 6 p) (good (onLeft (x ∷ xs))) (other 6 refl) tt
+allowed-not (onLeft xs) p (variableRecord x) = pick-not (elem x xs) (refuse 6 p) (good (onLeft (x ∷ xs))) (other 6 refl) tt
 allowed-not (onLeft xs) p (raiseRecord e) = other 5 refl
 allowed-not (onLeft xs) p (handleRecord e) = other 5 refl
 allowed-not (onLeft xs) p (callRecord k n) = other 5 refl
 allowed-not (onRight xs) p (constantRecord b) = tt
 allowed-not (onRight xs) p succRecord = tt
 allowed-not (onRight xs) p ifRecord = tt
-allowed-not (onRight xs) p (variableRecord x) = pick-not (has x xs) (good (onRight xs)) (refuse 7 p) tt (other 7 refl)
+allowed-not (onRight xs) p (variableRecord x) = pick-not (elem x xs) (good (onRight xs)) (refuse 7 p) tt (other 7 refl)
 allowed-not (onRight xs) p (raiseRecord e) = tt
 allowed-not (onRight xs) p (handleRecord e) = tt
 allowed-not (onRight xs) p (callRecord k n) = tt

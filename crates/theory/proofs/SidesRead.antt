@@ -10,7 +10,7 @@ use lib.ListN.{length, length-append}
 use Rattle.theory.specs.Syntax.{zeroB, trueB, falseB, Term, Terms, tnil, tcons, many, Pat, pbase, psucc, pvar, pick, choose, elem}
 use Rattle.theory.specs.Builtins.{builtinFuns, nthFun}
 use Rattle.theory.specs.Proper.{Distinct, AllIn, patVars, patsVars, termVars, termsVars}
-use Rattle.theory.specs.Bytes.{TermRecord, constantRecord, succRecord, ifRecord, variableRecord, raiseRecord, handleRecord, callRecord, recordParts, recordWords, nthTerm, termsFrom, NextRecord, noneLeft, cutShort, nextIs, bodyLength, withBody, nextRecord, Result, refused, good, refuse, ifGood, Declared, nthArity, orRefuse4, termRecord, Where, onLeft, onRight, inQuestion, has, allowed, ceiling, Side, addRecord, readTermRecord, readSide, patsOf, varsOf}
+use Rattle.theory.specs.Bytes.{TermRecord, constantRecord, succRecord, ifRecord, variableRecord, raiseRecord, handleRecord, callRecord, recordParts, recordWords, nthTerm, termsFrom, NextRecord, noneLeft, cutShort, nextIs, bodyLength, withBody, nextRecord, Result, refused, good, refuse, ifGood, Declared, nthArity, orRefuse4, termRecord, Where, onLeft, onRight, inQuestion, allowed, ceiling, Side, addRecord, readTermRecord, readSide, patsOf, varsOf}
 use Rattle.theory.specs.Encoding.{callBytes, encode, encodes, encodePats, termWords, termsWords, patsWords, OverDeclared, AllOverDeclared, Each}
 use Rattle.theory.proofs.Tests.{leb-true, leb-false, ne-of-eqb, eqb-false}
 use Rattle.theory.proofs.Accepted.{Ok, choose-ok, also-ok, TokOk, AllTok, Balanced, SideOk, side-ok, build-many, build-ok}
@@ -162,19 +162,15 @@ May w (raiseRecord e) = NotLeft w
 May w (handleRecord e) = NotLeft w
 May w (callRecord k n) = NotLeft w
 
-has-elem : (x : ℕ) (xs : List ℕ) → has x xs ≡ elem x xs
-has-elem x [] = refl
-has-elem x (y ∷ ys) = ap (λ (b : Bool). eqb y x || b) (has-elem x ys)
-
-not-yet : (x : ℕ) (xs : List ℕ) (p : ℕ) → Ok (λ v. (elem x xs ≡ false) × (v ≡ onLeft (x ∷ xs))) (pick (has x xs) (refuse 6 p) (good (onLeft (x ∷ xs))))
-not-yet x xs p = go (has x xs) (has-elem x xs)
+not-yet : (x : ℕ) (xs : List ℕ) (p : ℕ) → Ok (λ v. (elem x xs ≡ false) × (v ≡ onLeft (x ∷ xs))) (pick (elem x xs) (refuse 6 p) (good (onLeft (x ∷ xs))))
+not-yet x xs p = go (elem x xs) refl
   where
     go : (b : Bool) → b ≡ elem x xs → Ok (λ v. (elem x xs ≡ false) × (v ≡ onLeft (x ∷ xs))) (pick b (refuse 6 p) (good (onLeft (x ∷ xs))))
     go true e = tt
     go false e = (sym e, refl)
 
-there : (x : ℕ) (xs : List ℕ) (p : ℕ) → Ok (λ v. (elem x xs ≡ true) × (v ≡ onRight xs)) (pick (has x xs) (good (onRight xs)) (refuse 7 p))
-there x xs p = go (has x xs) (has-elem x xs)
+there : (x : ℕ) (xs : List ℕ) (p : ℕ) → Ok (λ v. (elem x xs ≡ true) × (v ≡ onRight xs)) (pick (elem x xs) (good (onRight xs)) (refuse 7 p))
+there x xs p = go (elem x xs) refl
   where
     go : (b : Bool) → b ≡ elem x xs → Ok (λ v. (elem x xs ≡ true) × (v ≡ onRight xs)) (pick b (good (onRight xs)) (refuse 7 p))
     go true e = (sym e, refl)
@@ -207,14 +203,14 @@ allowed-back : (w : Where) (p : ℕ) (t : TermRecord) → May w t → allowed w 
 allowed-back (onLeft xs) p (constantRecord b) h = refl
 allowed-back (onLeft xs) p succRecord h = refl
 allowed-back (onLeft xs) p ifRecord h = absurd h
-allowed-back (onLeft xs) p (variableRecord x) h = ap (λ (b : Bool). pick b (refuse 6 p) (good (onLeft (x ∷ xs)))) (has-elem x xs ∙ h)
+allowed-back (onLeft xs) p (variableRecord x) h = ap (λ (b : Bool). pick b (refuse 6 p) (good (onLeft (x ∷ xs)))) h
 allowed-back (onLeft xs) p (raiseRecord e) h = absurd h
 allowed-back (onLeft xs) p (handleRecord e) h = absurd h
 allowed-back (onLeft xs) p (callRecord k n) h = absurd h
 allowed-back (onRight xs) p (constantRecord b) h = refl
 allowed-back (onRight xs) p succRecord h = refl
 allowed-back (onRight xs) p ifRecord h = refl
-allowed-back (onRight xs) p (variableRecord x) h = ap (λ (b : Bool). pick b (good (onRight xs)) (refuse 7 p)) (has-elem x xs ∙ h)
+allowed-back (onRight xs) p (variableRecord x) h = ap (λ (b : Bool). pick b (good (onRight xs)) (refuse 7 p)) h
 allowed-back (onRight xs) p (raiseRecord e) h = refl
 allowed-back (onRight xs) p (handleRecord e) h = refl
 allowed-back (onRight xs) p (callRecord k n) h = refl

@@ -5,7 +5,7 @@ use mathlib.Core.Bool.{Bool, true, false, _||_, _&&_}
 use mathlib.Core.List.{List, [], _∷_, _++_}
 use lib.Dec.{eqb, leb, ltb}
 use lib.ListN.{length}
-use Rattle.theory.specs.Syntax.{Base, zeroB, trueB, falseB, Term, const, succ, tvar, raise, handle, cond, call, Terms, tnil, tcons, Pat, pbase, psucc, pvar, Def, Fun, Program, pick, choose}
+use Rattle.theory.specs.Syntax.{Base, zeroB, trueB, falseB, Term, const, succ, tvar, raise, handle, cond, call, Terms, tnil, tcons, Pat, pbase, psucc, pvar, Def, Fun, Program, pick, choose, elem}
 use Rattle.theory.specs.Builtins.{builtinFuns, nthFun, program}
 use Rattle.theory.specs.Overlap.{overlaps}
 
@@ -129,23 +129,19 @@ pub data Where : Type 0 where
   onLeft onRight : List ℕ → Where
   inQuestion : Where
 
-abbrev pub has : ℕ → List ℕ → Bool
-has x [] = false
-has x (y ∷ ys) = eqb y x || has x ys
-
 -- 5 a node that no left side has; 6 a variable twice on the left; 7 a variable not on the left, or in a question
 abbrev pub allowed : Where → ℕ → TermRecord → Result Where
 allowed (onLeft xs) p (constantRecord b) = good (onLeft xs)
 allowed (onLeft xs) p succRecord = good (onLeft xs)
 allowed (onLeft xs) p ifRecord = refuse 5 p
-allowed (onLeft xs) p (variableRecord x) = pick (has x xs) (refuse 6 p) (good (onLeft (x ∷ xs)))
+allowed (onLeft xs) p (variableRecord x) = pick (elem x xs) (refuse 6 p) (good (onLeft (x ∷ xs)))
 allowed (onLeft xs) p (raiseRecord e) = refuse 5 p
 allowed (onLeft xs) p (handleRecord e) = refuse 5 p
 allowed (onLeft xs) p (callRecord k n) = refuse 5 p
 allowed (onRight xs) p (constantRecord b) = good (onRight xs)
 allowed (onRight xs) p succRecord = good (onRight xs)
 allowed (onRight xs) p ifRecord = good (onRight xs)
-allowed (onRight xs) p (variableRecord x) = pick (has x xs) (good (onRight xs)) (refuse 7 p)
+allowed (onRight xs) p (variableRecord x) = pick (elem x xs) (good (onRight xs)) (refuse 7 p)
 allowed (onRight xs) p (raiseRecord e) = good (onRight xs)
 allowed (onRight xs) p (handleRecord e) = good (onRight xs)
 allowed (onRight xs) p (callRecord k n) = good (onRight xs)

@@ -7,8 +7,8 @@ use native.Mathlib.Omega.{arith}
 use lib.Dec.{eqb, leb, ltb}
 use lib.ListN.{length}
 use borrow.Author.Tests.{eqb-true}
-use Rattle.theory.specs.Syntax.{Base, zeroB, trueB, falseB, Terms, tnil, tcons, succ, pick, choose}
-use Rattle.theory.specs.Bytes.{TermRecord, constantRecord, succRecord, ifRecord, variableRecord, raiseRecord, handleRecord, callRecord, recordParts, recordWords, nthTerm, laterTerms, termsFrom, bodyLength, NextRecord, noneLeft, cutShort, nextIs, withBody, nextRecord, Result, refused, good, refuse, ifGood, Declared, orRefuse4, termRecord, Where, onLeft, has, allowed, ceiling, addRecord, readTermRecord, readSide, patsOf}
+use Rattle.theory.specs.Syntax.{elem, Base, zeroB, trueB, falseB, Terms, tnil, tcons, succ, pick, choose}
+use Rattle.theory.specs.Bytes.{TermRecord, constantRecord, succRecord, ifRecord, variableRecord, raiseRecord, handleRecord, callRecord, recordParts, recordWords, nthTerm, laterTerms, termsFrom, bodyLength, NextRecord, noneLeft, cutShort, nextIs, withBody, nextRecord, Result, refused, good, refuse, ifGood, Declared, orRefuse4, termRecord, Where, onLeft, allowed, ceiling, addRecord, readTermRecord, readSide, patsOf}
 use Rattle.theory.specs.Bytes
 use Rattle.checker.specs.Written.{baseKind, encodes}
 
@@ -113,7 +113,7 @@ module _ (D : Declared) (f : ℕ) (more : (xs : List ℕ) (due count p : ℕ) (b
     tok-goes l k b h0 h1 (good succRecord) e = rw (h0 (rw e refl) ∙ ap (λ j. j ∷ bs) e) succ-goes
     tok-goes l k b h0 h1 (good ifRecord) e = tt
     tok-goes l k b h0 h1 (good (variableRecord x)) e =
-        rw (h1 (rw (e .0) refl) .0 ∙ ap (λ j. j ∷ b ∷ bs) (e .0) ∙ ap (λ y. 0x14 ∷ y ∷ bs) (sym (e .1))) (var-goes x (has x xs))
+        rw (h1 (rw (e .0) refl) .0 ∙ ap (λ j. j ∷ b ∷ bs) (e .0) ∙ ap (λ y. 0x14 ∷ y ∷ bs) (sym (e .1))) (var-goes x (elem x xs))
     tok-goes l k b h0 h1 (good (raiseRecord x)) e = tt
     tok-goes l k b h0 h1 (good (handleRecord x)) e = tt
     tok-goes l k b h0 h1 (good (callRecord x n)) e = tt

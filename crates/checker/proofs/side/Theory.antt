@@ -8,8 +8,8 @@ use lib.Dec.{eqb, leb, ltb}
 use lib.ListN.{length, getD, drop, set}
 use lib.Seq.{drop-drop}
 use borrow.Author.Tests.{ne-eqb, leb-true}
-use Rattle.theory.specs.Syntax.{pick, choose}
-use Rattle.theory.specs.Bytes.{TermRecord, constantRecord, succRecord, ifRecord, variableRecord, raiseRecord, handleRecord, callRecord, recordParts, recordWords, NextRecord, noneLeft, cutShort, nextIs, nextRecord, Result, refused, good, refuse, ifGood, orRefuse4, Where, onLeft, onRight, inQuestion, has, allowed, ceiling, addRecord, readTermRecord, readSide}
+use Rattle.theory.specs.Syntax.{elem, pick, choose}
+use Rattle.theory.specs.Bytes.{TermRecord, constantRecord, succRecord, ifRecord, variableRecord, raiseRecord, handleRecord, callRecord, recordParts, recordWords, NextRecord, noneLeft, cutShort, nextIs, nextRecord, Result, refused, good, refuse, ifGood, orRefuse4, Where, onLeft, onRight, inQuestion, allowed, ceiling, addRecord, readTermRecord, readSide}
 use Rattle.theory.specs.Bytes
 use Rattle.checker.specs.declared.side.Step.{Step}
 use Rattle.checker.specs.declared.side.Side.{Side}
@@ -20,7 +20,7 @@ use Rattle.checker.specs.Side.{stopped, taken, admitted, stepOf, mostOf,
 use Rattle.checker.proofs.record.Laws.{Behind, behind}
 
 -- eight booleans
-bits-get : (xs : List ℕ) (x : ℕ) → x ≤ 7 → getD (bits xs) x false ≡ has x xs
+bits-get : (xs : List ℕ) (x : ℕ) → x ≤ 7 → getD (bits xs) x false ≡ elem x xs
 bits-get xs zero h = refl
 bits-get xs (suc zero) h = refl
 bits-get xs (suc (suc zero)) h = refl
@@ -87,14 +87,14 @@ unfolding admitted
 allows (onLeft xs) p (constantRecord b) h = (refl, refl)
 allows (onLeft xs) p succRecord h = (refl, refl)
 allows (onLeft xs) p ifRecord h = (refl, omega arith, refl)
-allows (onLeft xs) p (variableRecord x) h = rw (bits-get xs x h) (left-var xs p x (has x xs) h)
+allows (onLeft xs) p (variableRecord x) h = rw (bits-get xs x h) (left-var xs p x (elem x xs) h)
 allows (onLeft xs) p (raiseRecord e) h = (refl, omega arith, refl)
 allows (onLeft xs) p (handleRecord e) h = (refl, omega arith, refl)
 allows (onLeft xs) p (callRecord k n) h = (refl, omega arith, refl)
 allows (onRight xs) p (constantRecord b) h = (refl, refl)
 allows (onRight xs) p succRecord h = (refl, refl)
 allows (onRight xs) p ifRecord h = (refl, refl)
-allows (onRight xs) p (variableRecord x) h = rw (bits-get xs x h) (right-var xs p x (has x xs))
+allows (onRight xs) p (variableRecord x) h = rw (bits-get xs x h) (right-var xs p x (elem x xs))
 allows (onRight xs) p (raiseRecord e) h = (refl, refl)
 allows (onRight xs) p (handleRecord e) h = (refl, refl)
 allows (onRight xs) p (callRecord k n) h = (refl, refl)
