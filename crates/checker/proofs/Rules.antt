@@ -12,7 +12,7 @@ use Rattle.theory.specs.Syntax.{choose}
 use Rattle.theory.specs.Bytes.{NextRecord, noneLeft, cutShort, nextIs, nextRecord, Result, refused, good, refuse, ifGood, nthArity, onLeft, onRight, varsOf, readSide, RuleAt, patsOf, termsFrom, nthTerm, Book, addLast, orRefuse, readRule, readTopRecord, readRecords, emptyBook}
 use Rattle.theory.specs.Bytes
 use Rattle.checker.specs.Written.{bytesOf, encodes}
-use Rattle.checker.proofs.record.Laws.{Behind, behind}
+use Rattle.record.proofs.Laws.{Behind, behind}
 use Rattle.checker.proofs.node.Laws.{nth-getD}
 use Rattle.checker.proofs.side.Theory.{Stays, scan-is-side}
 use Rattle.checker.proofs.program.Theory.{excepted, functioned, ruled}

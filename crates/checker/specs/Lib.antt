@@ -1,6 +1,5 @@
 -- The definitions that contracts cite, by subject. Answer has what a caller cites.
 pub mod Answer
-pub mod Record
 pub mod Node
 pub mod Side
 pub mod Declarations

@@ -12,10 +12,10 @@ use Rattle.checker.specs.declared.Checked.{Checked}
 use Rattle.checker.specs.declared.overlap.Overlap.{Overlap}
 use Rattle.checker.specs.declared.overlap.Overlap.the-variants.{At, Nowhere}
 use Rattle.checker.specs.declared.declarations.Top.{Top}
-use Rattle.checker.specs.declared.record.Record.{Record}
+use Rattle.record.specs.declared.Record.{Record}
 use Rattle.checker.specs.Answer.{padded, table, refusedAs}
 use Rattle.theory.specs.Bytes.{openedAt}
-use Rattle.checker.specs.Record.{recordAt}
+use Rattle.record.specs.Record.{recordAt}
 use Rattle.checker.specs.Side.{noVars, scanFrom}
 use Rattle.checker.specs.Declarations.{stopTop, startTop, ownArities, exceptionTurn, functionTurn}
 

@@ -10,9 +10,9 @@ use Rattle.theory.specs.Syntax.{elem, choose, pick}
 use Rattle.checker.specs.declared.side.Stand.{Stand}
 use Rattle.checker.specs.declared.side.Stand.the-variants.{Left, Right, Asked}
 use Rattle.checker.specs.declared.side.Side.{Side}
-use Rattle.checker.specs.declared.record.Record.{Record}
+use Rattle.record.specs.declared.Record.{Record}
 use Rattle.checker.specs.declared.side.Step.{Step}
-use Rattle.checker.specs.Record.{recordAt}
+use Rattle.record.specs.Record.{recordAt}
 use Rattle.checker.specs.Node.{tokAt}
 
 -- an arity is a byte, and no record has more than two words

@@ -3,7 +3,6 @@ mod declarations;
 mod node;
 mod overlap;
 mod program;
-mod record;
 mod side;
 
 use declarations::Top;

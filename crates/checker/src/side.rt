@@ -1,7 +1,7 @@
 // A term's records one after another: on a left side, on a right side, or in a question.
 use crate::node::Node;
 use crate::node::node_of;
-use crate::record::record_at;
+use record::record_at;
 ghost use mathlib.Core.Path.{_≡_};
 ghost use Prim.Native.Nat.{ℕ, _≤_, _<_};
 ghost use Rattle.checker.specs.Node.{tokAt, varAt};

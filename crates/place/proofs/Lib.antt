@@ -1,3 +1,4 @@
--- Laws of the path among the words: Path. The path among a tree's words: Sites.
+-- Laws of the path among the words: Path. Of the path noted place by place: Noted. The path among a tree's words: Sites.
 pub mod Path
+pub mod Noted
 pub mod Sites

@@ -1,9 +1,10 @@
 -- The path from the root on which a term may be rewritten, among its words, and the deepest place on it that fits. `find` is the search for
 -- the rule that fits the front of some words.
 use Prim.Native.Nat.{ℕ, zero, suc, _+_, _-_, _≤_}
+use mathlib.Core.Bool.{Bool, true, false}
 use mathlib.Core.List.{List, [], _∷_}
 use lib.Dec.{ltb}
-use lib.ListN.{drop, getD}
+use lib.ListN.{length, drop, getD}
 use Rattle.theory.specs.Syntax.{pick}
 use Rattle.theory.specs.Tree.{active}
 use Rattle.words.specs.declared.terms.Reach.{Reach}
@@ -32,6 +33,14 @@ belowAt ks ws at = below ks (getD ws at 0) (drop (at + 1) ws) (at + 1)
 -- the place at, where some rule fits the words from there on
 unfoldable pub hereAt : (List ℕ → Fitting) → List ℕ → ℕ → Site
 hereAt find ss at = pick (isFound (find ss)) (At at (find ss)) Nothing
+
+-- the same of the place at of ws; past the words nothing fits
+unfoldable pub hereIn : (List ℕ → Fitting) → List ℕ → ℕ → Site
+hereIn find ws at = pick (ltb at (length ws)) (hereAt find (drop at ws) at) Nothing
+
+abbrev pub isAt : Site → Bool
+isAt (At p f) = true
+isAt Nothing = false
 
 -- the deeper place goes first
 abbrev pub orHere : Site → Site → Site

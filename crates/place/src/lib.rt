@@ -6,10 +6,11 @@ use words::terms::arity;
 use words::terms::skip_many;
 ghost use mathlib.Core.Path.{_≡_};
 ghost use Prim.Native.Nat.{_<_};
-ghost use lib.ListN.{length, drop};
+ghost use lib.ListN.{length, getD};
 ghost use Rattle.theory.specs.Tree.{active};
 ghost use Rattle.rules.specs.Finding.{isFound, fittingOf, Handed};
-ghost use Rattle.place.specs.Path.{RuleWithin, belowAt, hereAt, siteAt};
+ghost use Rattle.place.specs.Path.{RuleWithin, belowAt, hereIn, isAt, siteAt};
+ghost use Rattle.place.specs.Noted.{OnPath, Deepest, Numbered};
 
 // The place that is rewritten, and where the rule that fits there stands.
 pub enum Site {
@@ -76,9 +77,11 @@ fn here(
     term: &[u16],
     at: usize,
 ) -> Site
-    requires { ⌜ at < length (now term) ⌝ }
-    ensures { λ r. ⌜ r ≡ hereAt (fittingOf (now (arities .entry)) (now (standing .entry)) (now (own .entry)) (now («standing_index» .entry)) (now («own_index» .entry))) (drop at (now (term .entry))) at ⌝ }
+    ensures { λ r. ⌜ r ≡ hereIn (fittingOf (now (arities .entry)) (now (standing .entry)) (now (own .entry)) (now («standing_index» .entry)) (now («own_index» .entry))) (now (term .entry)) at ⌝ }
 {
+    if term.len() <= at {
+        return Site::Nothing;
+    }
     let rule = find_place(
         arities,
         standing,
@@ -93,36 +96,111 @@ fn here(
     Site::Nothing
 }
 
-// The deepest place, on the path from `at` down, that some rule fits: the rules are tried on the way back up.
-pub fn site_from(
+fn is_at(site: Site) -> bool
+    ensures { λ r. ⌜ r ≡ isAt site ⌝ }
+{
+    match site {
+        Site::At { place, rule } => true,
+        Site::Nothing => false,
+    }
+}
+
+// Goes down the path from its noted place `last`, notes each further place, and answers the number of the deepest.
+fn descend(arities: &[u8], term: &[u16], path: &mut [usize], last: usize) -> usize
+    requires { ⌜ length (now term) < length (now path) ⌝ }
+    requires { ⌜ OnPath (now arities) (now term) (now path) last ⌝ }
+    ensures { λ r. ⌜ OnPath (now (arities .entry)) (now (term .entry)) (now (path .exit)) r ⌝ }
+    ensures deepest { λ r. ⌜ Deepest (now (arities .entry)) (now (term .entry)) (getD (now (path .exit)) r 0) ⌝ }
+{
+    let mut n = last;
+    let mut at = path[n];
+    while at < term.len() {
+        match below(arities, term, at) {
+            Reach::Short => {
+                return n;
+            }
+            Reach::End(p) => {
+                n += 1;
+                path[n] = p;
+                at = p;
+            }
+        }
+    }
+    n
+}
+
+// A place where some rule fits, and its number on the path.
+pub struct Found {
+    pub site: Site,
+    pub number: usize,
+}
+
+// Goes up the noted path from its deepest place to the first where some rule fits.
+fn climb(
     arities: &[u8],
     standing: &[u16],
     own: &[u16],
     standing_index: &[usize],
     own_index: &[usize],
     term: &[u16],
-    at: usize,
-) -> Site
-    ensures { λ r. ⌜ r ≡ siteAt (now (arities .entry)) (fittingOf (now (arities .entry)) (now (standing .entry)) (now (own .entry)) (now («standing_index» .entry)) (now («own_index» .entry))) (now (term .entry)) at ⌝ }
+    path: &[usize],
+    deepest: usize,
+) -> Found
+    requires { ⌜ length (now term) < length (now path) ⌝ }
+    requires { ⌜ OnPath (now arities) (now term) (now path) deepest ⌝ }
+    requires { ⌜ Deepest (now arities) (now term) (getD (now path) deepest 0) ⌝ }
+    ensures { λ r. ⌜ r .site ≡ siteAt (now (arities .entry)) (fittingOf (now (arities .entry)) (now (standing .entry)) (now (own .entry)) (now («standing_index» .entry)) (now («own_index» .entry))) (now (term .entry)) 0 ⌝ }
+    ensures noted { λ r. ⌜ Numbered (now (arities .entry)) (now (term .entry)) (now (path .entry)) (r .site) (r .number) ⌝ }
 {
-    if term.len() <= at {
-        return Site::Nothing;
-    }
-    match below(arities, term, at) {
-        Reach::Short => here(arities, standing, own, standing_index, own_index, term, at),
-        Reach::End(p) => match site_from(
+    let mut n = deepest;
+    loop {
+        let site = here(
             arities,
             standing,
             own,
             standing_index,
             own_index,
             term,
-            p,
-        ) {
-            Site::At { place, rule } => Site::At { place, rule },
-            Site::Nothing => here(arities, standing, own, standing_index, own_index, term, at),
-        },
+            path[n],
+        );
+        if is_at(site) {
+            return Found { site, number: n };
+        }
+        if n == 0 {
+            return Found { site, number: 0 };
+        }
+        n -= 1;
     }
+}
+
+// The deepest place of the path that some rule fits. The path is noted up to its place number `last`: the search goes on from there,
+// down to the end and then up to where a rule fits.
+pub fn site_on(
+    arities: &[u8],
+    standing: &[u16],
+    own: &[u16],
+    standing_index: &[usize],
+    own_index: &[usize],
+    term: &[u16],
+    path: &mut [usize],
+    last: usize,
+) -> Found
+    requires { ⌜ length (now term) < length (now path) ⌝ }
+    requires { ⌜ OnPath (now arities) (now term) (now path) last ⌝ }
+    ensures { λ r. ⌜ r .site ≡ siteAt (now (arities .entry)) (fittingOf (now (arities .entry)) (now (standing .entry)) (now (own .entry)) (now («standing_index» .entry)) (now («own_index» .entry))) (now (term .entry)) 0 ⌝ }
+    ensures noted { λ r. ⌜ Numbered (now (arities .entry)) (now (term .entry)) (now (path .exit)) (r .site) (r .number) ⌝ }
+{
+    let deepest = descend(arities, term, path, last);
+    climb(
+        arities,
+        standing,
+        own,
+        standing_index,
+        own_index,
+        term,
+        path,
+        deepest,
+    )
 }
 
 // A rule that was found, as a part of the list that holds it; an empty part of the own list's start where none was.

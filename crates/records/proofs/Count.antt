@@ -1,6 +1,6 @@
 -- How many words n terms are, record by record.
 use mathlib.Core.Path.{_≡_, refl, sym, ap, ap₂, _∙_, subst}
-use mathlib.Core.Bool.{Bool, true, false}
+use mathlib.Core.Bool.{Bool, true, false, _||_}
 use mathlib.Core.List.{List, [], _∷_}
 use Prim.Native.Nat.{ℕ, zero, suc, _+_, _-_, _≤_, _<_}
 use native.Mathlib.Nat.{add-assoc, suc-add, zero-add, add-comm}
@@ -12,9 +12,10 @@ use Rattle.theory.specs.Tree.{size, sizes}
 use Rattle.theory.specs.Translation.{tree, trees}
 use Rattle.theory.specs.Bytes.{TermRecord, constantRecord, succRecord, ifRecord, variableRecord, raiseRecord, handleRecord, callRecord, recordParts, recordWords, firstTerms, laterTerms, termFrom, termsFrom}
 use Rattle.theory.proofs.Tests.{eqb-false}
+use Rattle.record.specs.Record.{recordAt}
 use Rattle.records.specs.declared.roots.Root.{Root}
-use Rattle.records.specs.Records.{hasBody, plainRecord, longRecord, recordsFrom, recordBytes, Whole, after, spanOf, countOf, from, Passed}
-use Rattle.records.specs.Roots.{exceptionOf, recordAt, rootAt}
+use Rattle.records.specs.Records.{recordsPast, recordBytes, Whole, after, spanOf, countOf, from, Passed}
+use Rattle.records.specs.Roots.{exceptionOf, termRecordAt, rootAt}
 use Rattle.records.proofs.Laws.{whole-split, whole-many, whole-first, record-there, record-inside, after-none, span-none, count-none}
 
 -- a term's words: its root's and its parts'
@@ -64,19 +65,16 @@ two-words (handleRecord e) = sym (ap (λ (b : Bool). pick b 1 2) (eqb-false (32 
 two-words (callRecord k n) = refl
 
 -- there are no more terms than bytes
-recordsFrom-length : (arities l : List ℕ) → length (recordsFrom arities l) ≤ length l
-unfolding recordsFrom
-recordsFrom-length arities [] = omega arith
-recordsFrom-length arities (k ∷ []) = go (hasBody k)
+records-length : (arities : List ℕ) (n : ℕ) (l : List ℕ) → length (recordsPast arities n l) ≤ length l
+unfolding recordsPast
+records-length arities zero [] = omega arith
+records-length arities zero (k ∷ bs) = go (eqb (recordAt (k ∷ bs) 0 .len) 1 || eqb (recordAt (k ∷ bs) 0 .len) 2) _ _ (records-length arities (recordAt (k ∷ bs) 0 .len - 1) bs)
   where
-    go : (b : Bool) → length (pick b [] (plainRecord k ∷ [])) ≤ 1
-    go true = omega arith
-    go false = omega arith
-recordsFrom-length arities (k ∷ b ∷ bs) = go (hasBody k) (recordsFrom-length arities bs) (recordsFrom-length arities (b ∷ bs))
-  where
-    go : (t : Bool) → length (recordsFrom arities bs) ≤ length bs → length (recordsFrom arities (b ∷ bs)) ≤ length (b ∷ bs) → length (pick t (longRecord arities k b ∷ recordsFrom arities bs) (plainRecord k ∷ recordsFrom arities (b ∷ bs))) ≤ length (k ∷ b ∷ bs)
-    go true h j = omega (arith, h)
-    go false h j = omega (arith, j)
+    go : (b : Bool) (t : TermRecord) (ks : List TermRecord) → length ks ≤ length bs → length (pick b (t ∷ ks) []) ≤ length (k ∷ bs)
+    go true t ks h = omega (arith, h)
+    go false t ks h = omega arith
+records-length arities (suc n) [] = omega arith
+records-length arities (suc n) (k ∷ bs) = omega (arith, records-length arities n bs)
 
 whole-length : (ks : List TermRecord) (n : ℕ) → Whole ks n → n ≤ length ks
 whole-length [] zero h = omega arith
@@ -94,7 +92,7 @@ pub record Going (arities bytes : List ℕ) (p n owed next count : ℕ) : Type 0
   pub rest : after (from arities bytes next) owed ≡ after (from arities bytes p) n
 
 few-terms : (arities bytes : List ℕ) (p n : ℕ) → Whole (from arities bytes p) n → n ≤ length bytes
-few-terms arities bytes p n h = omega (arith, whole-length (from arities bytes p) n h, recordsFrom-length arities (drop p bytes), length-drop p bytes)
+few-terms arities bytes p n h = omega (arith, whole-length (from arities bytes p) n h, records-length arities 0 (drop p bytes), length-drop p bytes)
 
 pub going-start : (arities bytes : List ℕ) (p n : ℕ) → p ≤ length bytes → Whole (from arities bytes p) n → Going arities bytes p n n p 0
 going-start arities bytes p n h w = record { inside = h; few = few-terms arities bytes p n w; whole = w; place = refl; words = zero-add (countOf (from arities bytes p) n); rest = refl }
@@ -104,7 +102,7 @@ pub going-turn : (arities bytes : List ℕ) (p n owed next count : ℕ) (r : Roo
 going-turn arities bytes p n owed next count r g h e = subst (λ (x : Root). Going arities bytes p n (owed - 1 + x .parts) (x .next) (count + pick (eqb (x .exception) 0) 1 2)) (sym e) there
   where
     k : TermRecord
-    k = recordAt arities bytes next
+    k = termRecordAt arities bytes next
 
     one : Whole (from arities bytes next) 1
     one = whole-first arities bytes next owed h (g .whole)

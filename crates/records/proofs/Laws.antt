@@ -1,20 +1,24 @@
 -- The laws of records: the record at a place and those behind it; terms one after the other.
 use mathlib.Core.Path.{_≡_, refl, sym, ap, ap₂, _∙_, subst}
-use mathlib.Core.Bool.{Bool, true, false}
+use mathlib.Core.Bool.{Bool, true, false, _||_}
 use mathlib.Core.List.{List, [], _∷_, _++_, append-nil}
 use Prim.Native.Nat.{ℕ, zero, suc, _+_, _-_, _≤_, _<_}
 use native.Mathlib.Nat.{add-assoc, suc-add, zero-add, add-zero}
 use native.Mathlib.Omega.{arith}
 use lib.Dec.{eqb}
-use lib.ListN.{length, getD, drop, length-drop}
-use lib.Seq.{drop-drop, getD-drop}
+use lib.ListN.{length, drop}
+use lib.Seq.{drop-drop}
+use borrow.Author.Tests.{eq-eqb}
 use Rattle.theory.specs.Syntax.{zeroB, trueB, falseB, Term, Terms, tnil, tcons, many, pick}
 use Rattle.theory.specs.Words.{words, allWords}
 use Rattle.theory.specs.Translation.{tree, trees, aux}
 use Rattle.theory.specs.Bytes.{TermRecord, constantRecord, succRecord, ifRecord, variableRecord, raiseRecord, handleRecord, callRecord, recordParts, firstTerms, laterTerms, nthTerm, termFrom, termsFrom}
 use Rattle.theory.proofs.Tests.{eqb-false, eq-of-eqb, ne-of-eqb}
-use Rattle.records.specs.Records.{hasBody, plainRecord, longRecord, recordsFrom, recordBytes, Whole, after, spanOf, countOf, from, termsAt, termAt, Passed}
-use Rattle.records.specs.Roots.{wordOf, exceptionOf, recordAt, rootOf, rootAt, rootWords, handled}
+use Rattle.record.specs.declared.Record.{Record}
+use Rattle.record.specs.Record.{recordAt}
+use Rattle.record.proofs.Laws.{record-most}
+use Rattle.records.specs.Records.{plainRecord, longRecord, termRecordOf, recordThen, recordsPast, recordsFrom, recordBytes, Whole, after, spanOf, countOf, from, termsAt, termAt, Passed}
+use Rattle.records.specs.Roots.{wordOf, exceptionOf, termRecordAt, rootOf, rootAt, rootWords, handled}
 use Rattle.records.specs.declared.roots.Root.{Root}
 
 -- a record has one byte or two
@@ -28,47 +32,63 @@ bytes-plain k = pick-bytes (eqb k 0x10) _ _ 1 refl (pick-bytes (eqb k 0x11) _ _ 
 pub bytes-long : (arities : List ℕ) (k b : ℕ) → recordBytes (longRecord arities k b) ≡ 2
 bytes-long arities k b = pick-bytes (eqb k 0x14) _ _ 2 refl (pick-bytes (eqb k 0x15) _ _ 2 refl (pick-bytes (eqb k 0x16) _ _ 2 refl (pick-bytes (eqb k 0x18) _ _ 2 refl refl)))
 
--- the record at the front of some bytes
-abbrev recordHead : List ℕ → List ℕ → TermRecord
-recordHead arities l = pick (hasBody (getD l 0 0)) (longRecord arities (getD l 0 0) (getD l 1 0)) (plainRecord (getD l 0 0))
+-- the records behind n bytes
+past-drop : (arities : List ℕ) (n : ℕ) (l : List ℕ) → recordsPast arities n l ≡ recordsFrom arities (drop n l)
+unfolding recordsPast
+past-drop arities zero l = refl
+past-drop arities (suc n) [] = refl
+past-drop arities (suc n) (b ∷ bs) = past-drop arities n bs
 
-abbrev There : List ℕ → List ℕ → Type 0
-There arities l = (recordBytes (recordHead arities l) ≤ length l) × (recordsFrom arities l ≡ recordHead arities l ∷ recordsFrom arities (drop (recordBytes (recordHead arities l)) l))
-
-head-there : (arities l : List ℕ) → Whole (recordsFrom arities l) 1 → There arities l
-unfolding recordsFrom
-head-there arities [] h = absurd h
-head-there arities (k ∷ []) h = go (hasBody k) h
+-- the record at the front, and those behind its bytes
+records-next : (arities l : List ℕ) → recordsFrom arities l ≡ recordThen arities (recordAt l 0) (recordsFrom arities (drop (recordAt l 0 .len) l))
+unfolding recordsPast recordAt
+records-next arities [] = refl
+records-next arities (k ∷ bs) = go (recordAt (k ∷ bs) 0 .len)
   where
-    go : (b : Bool) → Whole (pick b [] (plainRecord k ∷ [])) 1
-        → (recordBytes (pick b (longRecord arities k 0) (plainRecord k)) ≤ 1)
-        × (pick b [] (plainRecord k ∷ []) ≡ pick b (longRecord arities k 0) (plainRecord k) ∷ recordsFrom arities (drop (recordBytes (pick b (longRecord arities k 0) (plainRecord k))) (k ∷ [])))
-    go true h = absurd h
-    go false h = (omega (arith, bytes-plain k), ap (λ (n : ℕ). plainRecord k ∷ recordsFrom arities (drop n (k ∷ []))) (sym (bytes-plain k)))
-head-there arities (k ∷ b ∷ bs) h = go (hasBody k)
-  where
-    go : (t : Bool) → (recordBytes (pick t (longRecord arities k b) (plainRecord k)) ≤ length (k ∷ b ∷ bs))
-        × (pick t (longRecord arities k b ∷ recordsFrom arities bs) (plainRecord k ∷ recordsFrom arities (b ∷ bs)) ≡ pick t (longRecord arities k b) (plainRecord k) ∷ recordsFrom arities (drop (recordBytes (pick t (longRecord arities k b) (plainRecord k))) (k ∷ b ∷ bs)))
-    go true = (omega (arith, bytes-long arities k b), ap (λ (n : ℕ). longRecord arities k b ∷ recordsFrom arities (drop n (k ∷ b ∷ bs))) (sym (bytes-long arities k b)))
-    go false = (omega (arith, bytes-plain k), ap (λ (n : ℕ). plainRecord k ∷ recordsFrom arities (drop n (k ∷ b ∷ bs))) (sym (bytes-plain k)))
+    r : Record
+    r = recordAt (k ∷ bs) 0
 
-record-at : (arities bytes : List ℕ) (p : ℕ) → recordHead arities (drop p bytes) ≡ recordAt arities bytes p
-record-at arities bytes p =
-    let z : p + 0 ≡ p = omega arith in
-    ap₂ (λ (x y : ℕ). pick (hasBody x) (longRecord arities x y) (plainRecord x)) (getD-drop p bytes 0 0 ∙ ap (λ (i : ℕ). getD bytes i 0) z) (getD-drop p bytes 1 0)
+    go : (n : ℕ) → pick (eqb n 1 || eqb n 2) (termRecordOf arities r ∷ recordsPast arities (n - 1) bs) [] ≡ pick (eqb n 1 || eqb n 2) (termRecordOf arities r ∷ recordsFrom arities (drop n (k ∷ bs))) []
+    go zero = refl
+    go (suc n) =
+        let z : suc n - 1 ≡ n = omega arith in
+        ap (λ (ks : List TermRecord). pick (eqb (suc n) 1 || eqb (suc n) 2) (termRecordOf arities r ∷ ks) []) (ap (λ (i : ℕ). recordsPast arities i bs) z ∙ past-drop arities n bs)
+
+-- the same at a place
+from-next : (arities bytes : List ℕ) (p : ℕ) → from arities bytes p ≡ recordThen arities (recordAt bytes p) (from arities bytes (p + recordAt bytes p .len))
+unfolding recordAt
+from-next arities bytes p =
+    records-next arities (drop p bytes)
+    ∙ ap (λ (l : List ℕ). recordThen arities (recordAt bytes p) (recordsFrom arities l)) (drop-drop (recordAt bytes p .len) p bytes)
+
+-- a record that whole terms begin with is there, and has the bytes of a term's
+then-there : (arities : List ℕ) (r : Record) (ks : List TermRecord) → Whole (recordThen arities r ks) 1 → (recordThen arities r ks ≡ termRecordOf arities r ∷ ks) × (r .len ≡ recordBytes (termRecordOf arities r))
+then-there arities r ks = go (eqb (r .len) 1) (eqb (r .len) 2) refl refl
+  where
+    record-of : Bool → TermRecord
+    record-of a = pick a (plainRecord (r .kind)) (longRecord arities (r .kind) (r .body))
+
+    go : (a b : Bool) → eqb (r .len) 1 ≡ a → eqb (r .len) 2 ≡ b → Whole (pick (a || b) (record-of a ∷ ks) []) 1 → (pick (a || b) (record-of a ∷ ks) [] ≡ record-of a ∷ ks) × (r .len ≡ recordBytes (record-of a))
+    go true b e f h = (refl, eq-of-eqb (r .len) 1 e ∙ sym (bytes-plain (r .kind)))
+    go false true e f h = (refl, eq-of-eqb (r .len) 2 f ∙ sym (bytes-long arities (r .kind) (r .body)))
+    go false false e f h = absurd h
 
 module _ (arities bytes : List ℕ) (p : ℕ) (h : Whole (from arities bytes p) 1) where
-  -- where a whole term stands there is a record, and it is read to its end
-  pub record-there : from arities bytes p ≡ recordAt arities bytes p ∷ from arities bytes (p + recordBytes (recordAt arities bytes p))
-  record-there =
-      head-there arities (drop p bytes) h .1
-      ∙ ap (λ (k : TermRecord). k ∷ recordsFrom arities (drop (recordBytes k) (drop p bytes))) (record-at arities bytes p)
-      ∙ ap (λ (l : List ℕ). recordAt arities bytes p ∷ recordsFrom arities l) (drop-drop (recordBytes (recordAt arities bytes p)) p bytes)
+  -- the record there is a term's, and has the bytes of one
+  there : (from arities bytes p ≡ termRecordAt arities bytes p ∷ from arities bytes (p + recordAt bytes p .len)) × (recordAt bytes p .len ≡ recordBytes (termRecordAt arities bytes p))
+  there =
+      let e = from-next arities bytes p in
+      let t = then-there arities (recordAt bytes p) (from arities bytes (p + recordAt bytes p .len)) (subst (λ (ks : List TermRecord). Whole ks 1) e h) in
+      (e ∙ t .0, t .1)
 
-  pub record-inside : (0 < recordBytes (recordAt arities bytes p)) × (p + recordBytes (recordAt arities bytes p) ≤ length bytes)
+  -- where a whole term stands there is a record, and it is read to its end
+  pub record-there : from arities bytes p ≡ termRecordAt arities bytes p ∷ from arities bytes (p + recordBytes (termRecordAt arities bytes p))
+  record-there = there .0 ∙ ap (λ (n : ℕ). termRecordAt arities bytes p ∷ from arities bytes (p + n)) (there .1)
+
+  pub record-inside : (0 < recordBytes (termRecordAt arities bytes p)) × (p + recordBytes (termRecordAt arities bytes p) ≤ length bytes)
   record-inside =
-      let s = some-bytes (recordAt arities bytes p) in
-      (s, omega (arith, s, head-there arities (drop p bytes) h .0, ap recordBytes (record-at arities bytes p), length-drop p bytes))
+      let s = some-bytes (termRecordAt arities bytes p) in
+      (s, omega (arith, s, there .1, record-most bytes p))
     where
       some-bytes : (k : TermRecord) → 0 < recordBytes k
       some-bytes (constantRecord b) = omega arith
@@ -79,9 +99,19 @@ module _ (arities bytes : List ℕ) (p : ℕ) (h : Whole (from arities bytes p) 
       some-bytes (handleRecord e) = omega arith
       some-bytes (callRecord k n) = omega arith
 
-  pub long-bytes : hasBody (getD bytes p 0) ≡ true → recordBytes (recordAt arities bytes p) ≡ 2
-  long-bytes e =
-      ap (λ (b : Bool). recordBytes (pick b (longRecord arities (getD bytes p 0) (getD bytes (p + 1) 0)) (plainRecord (getD bytes p 0)))) e ∙ bytes-long arities (getD bytes p 0) (getD bytes (p + 1) 0)
+  -- the root at a place, by the record that was read there
+  module _ (r : Record) (read : r ≡ recordAt bytes p) where
+    pub next-inside : p + r .len ≤ length bytes
+    next-inside = omega (arith, ap (λ (x : Record). x .len) read, there .1, record-inside .1)
+
+    root-read : rootOf (termRecordOf arities r) (p + r .len) ≡ rootAt arities bytes p
+    root-read = ap (λ (x : Record). rootOf (termRecordOf arities x) (p + x .len)) read ∙ ap (λ (n : ℕ). rootOf (termRecordAt arities bytes p) (p + n)) (there .1)
+
+    pub root-plain : r .len ≡ 1 → rootOf (plainRecord (r .kind)) (p + r .len) ≡ rootAt arities bytes p
+    root-plain e = ap (λ (b : Bool). rootOf (pick b (plainRecord (r .kind)) (longRecord arities (r .kind) (r .body))) (p + r .len)) (sym (eq-eqb (r .len) 1 e)) ∙ root-read
+
+    pub root-long : (r .len ≡ 1 → ⊥) → rootOf (longRecord arities (r .kind) (r .body)) (p + r .len) ≡ rootAt arities bytes p
+    root-long e = ap (λ (b : Bool). rootOf (pick b (plainRecord (r .kind)) (longRecord arities (r .kind) (r .body))) (p + r .len)) (sym (eqb-false (r .len) 1 e)) ∙ root-read
 
 -- terms one after the other
 pub whole-split : (ks : List TermRecord) (m n : ℕ) → Whole ks (m + n) → Whole ks m × Whole (after ks m) n
@@ -126,9 +156,9 @@ passed-then {arities} {bytes} {p} {m} {q} {n} {r} a b =
     }
 
 -- a root, and then its parts, are a term
-pub passed-root : (arities bytes : List ℕ) (p r : ℕ) → Whole (from arities bytes p) 1 → Passed arities bytes (p + recordBytes (recordAt arities bytes p)) (recordParts (recordAt arities bytes p)) r → Passed arities bytes p 1 r
+pub passed-root : (arities bytes : List ℕ) (p r : ℕ) → Whole (from arities bytes p) 1 → Passed arities bytes (p + recordBytes (termRecordAt arities bytes p)) (recordParts (termRecordAt arities bytes p)) r → Passed arities bytes p 1 r
 passed-root arities bytes p r h a =
-    let k = recordAt arities bytes p in
+    let k = termRecordAt arities bytes p in
     let e = record-there arities bytes p h in
     let z : recordParts k ≡ recordParts k + 0 = omega arith in
     record {
@@ -138,9 +168,9 @@ passed-root arities bytes p r h a =
       rest = a .rest ∙ ap (after (from arities bytes (p + recordBytes k))) z ∙ sym (ap (λ (ks : List TermRecord). after ks 1) e);
     }
 
-pub whole-root : (arities bytes : List ℕ) (p : ℕ) → Whole (from arities bytes p) 1 → Whole (from arities bytes (p + recordBytes (recordAt arities bytes p))) (recordParts (recordAt arities bytes p))
+pub whole-root : (arities bytes : List ℕ) (p : ℕ) → Whole (from arities bytes p) 1 → Whole (from arities bytes (p + recordBytes (termRecordAt arities bytes p))) (recordParts (termRecordAt arities bytes p))
 whole-root arities bytes p h =
-    let k = recordAt arities bytes p in
+    let k = termRecordAt arities bytes p in
     let w : Whole (k ∷ from arities bytes (p + recordBytes k)) 1 = subst (λ (ks : List TermRecord). Whole ks 1) (record-there arities bytes p h) h in
     let z : recordParts k + 0 ≡ recordParts k = omega arith in
     subst (Whole (from arities bytes (p + recordBytes k))) z w
@@ -168,19 +198,6 @@ whole-many [] zero h = omega arith
 whole-many [] (suc n) h = absurd h
 whole-many (k ∷ ks) zero h = omega arith
 whole-many (k ∷ ks) (suc n) h = omega (arith, whole-many ks (recordParts k + n) h, many-others (recordParts k) (termsFrom ks))
-
--- the root at a place, by whether its record has a body
-pub root-long : (arities bytes : List ℕ) (p : ℕ) → hasBody (getD bytes p 0) ≡ true → rootOf (longRecord arities (getD bytes p 0) (getD bytes (p + 1) 0)) (p + 2) ≡ rootAt arities bytes p
-root-long arities bytes p e =
-    let long = longRecord arities (getD bytes p 0) (getD bytes (p + 1) 0) in
-    ap (λ (n : ℕ). rootOf long (p + n)) (sym (bytes-long arities (getD bytes p 0) (getD bytes (p + 1) 0)))
-    ∙ ap (λ (b : Bool). rootOf (pick b long (plainRecord (getD bytes p 0))) (p + recordBytes (pick b long (plainRecord (getD bytes p 0))))) (sym e)
-
-pub root-plain : (arities bytes : List ℕ) (p : ℕ) → hasBody (getD bytes p 0) ≡ false → rootOf (plainRecord (getD bytes p 0)) (p + 1) ≡ rootAt arities bytes p
-root-plain arities bytes p e =
-    let long = longRecord arities (getD bytes p 0) (getD bytes (p + 1) 0) in
-    let plain = plainRecord (getD bytes p 0) in
-    ap (λ (n : ℕ). rootOf plain (p + n)) (sym (bytes-plain (getD bytes p 0))) ∙ ap (λ (b : Bool). rootOf (pick b long plain) (p + recordBytes (pick b long plain))) (sym e)
 
 -- the words of a term: those of its root, and those of its parts
 module _ (k : TermRecord) (ts : Terms) where
@@ -216,7 +233,7 @@ module _ (k : TermRecord) (ts : Terms) where
       go (handleRecord d) e = (refl, ap (λ (l : List ℕ). 12 ∷ (words (tree (nthTerm ts 0)) ++ ((32 + d) ∷ l))) (append-nil (words (tree (nthTerm ts 1)))))
       go (callRecord f a) e = absurd (omega arith)
 
-pub term-root : (arities bytes : List ℕ) (p : ℕ) → Whole (from arities bytes p) 1 → termAt arities bytes p ≡ termFrom (recordAt arities bytes p) (termsAt arities bytes (p + recordBytes (recordAt arities bytes p)))
+pub term-root : (arities bytes : List ℕ) (p : ℕ) → Whole (from arities bytes p) 1 → termAt arities bytes p ≡ termFrom (termRecordAt arities bytes p) (termsAt arities bytes (p + recordBytes (termRecordAt arities bytes p)))
 term-root arities bytes p h = ap (λ (ks : List TermRecord). nthTerm (termsFrom ks) 0) (record-there arities bytes p h)
 
 -- what the root of the term at a place says of the term
@@ -231,7 +248,7 @@ pub rooted : (arities bytes : List ℕ) (p : ℕ) (r : Root) → Whole (from ari
 rooted arities bytes p r h e = subst (Rooted arities bytes p) (sym e) there
   where
     k : TermRecord
-    k = recordAt arities bytes p
+    k = termRecordAt arities bytes p
 
     ts : Terms
     ts = termsAt arities bytes (p + recordBytes k)

@@ -11,24 +11,24 @@ use lib.Dec.{ltb}
 use lib.ListN.{length, length-append}
 use borrow.Author.Tests.{lt-ltb, le-ltb}
 use Rattle.theory.specs.Syntax.{zeroB, trueB, falseB, Term, succ, handle, cond, call, Terms, tnil, tcons, many, pick}
-use Rattle.theory.specs.Bytes.{TermRecord, constantRecord, succRecord, ifRecord, variableRecord, raiseRecord, handleRecord, callRecord, recordParts, recordWords, firstTerms, laterTerms, nthTerm, termFrom, termsFrom, good, Declared, readQuestion}
+use Rattle.theory.specs.Bytes.{TermRecord, constantRecord, succRecord, ifRecord, variableRecord, raiseRecord, handleRecord, callRecord, recordParts, recordWords, firstTerms, laterTerms, nthTerm, termFrom, termsFrom, bodyLength, withBody, good, Declared, readQuestion}
 use Rattle.theory.specs.Encoding.{callBytes, encode, encodes, termWords, termsWords, OverDeclared, AllOverDeclared}
 use Rattle.theory.proofs.Accepted.{TokOk, AllTok, Balanced}
 use Rattle.theory.proofs.RecordsOfTerms.{bytesTok, bytesToks, wordsToks, flats, flats-bytes, flats-words, flats-ok, flats-due, flats-build}
 use Rattle.theory.proofs.AcceptedExactly.{question-accepted-exactly}
-use Rattle.records.specs.Records.{hasBody, plainRecord, longRecord, recordsFrom, recordBytes, Whole, spanOf, countOf, from, termAt}
+use Rattle.record.specs.Record.{recordOf, recordAt}
+use Rattle.records.specs.Records.{plainRecord, longRecord, recordThen, recordsPast, recordsFrom, recordBytes, Whole, spanOf, countOf, from, termAt}
 use Rattle.records.specs.Agrees.{Agrees}
 use Rattle.records.proofs.Laws.{span-none, count-none}
 
 -- ONE RECORD, without a body and with one
-records-plain : (arities : List ℕ) (k : ℕ) (l : List ℕ) → hasBody k ≡ false → recordsFrom arities (k ∷ l) ≡ plainRecord k ∷ recordsFrom arities l
-unfolding recordsFrom
-records-plain arities k [] e = ap (λ (b : Bool). pick b [] (plainRecord k ∷ [])) e
-records-plain arities k (b ∷ bs) e = ap (λ (x : Bool). pick x (longRecord arities k b ∷ recordsFrom arities bs) (plainRecord k ∷ recordsFrom arities (b ∷ bs))) e
+records-plain : (arities : List ℕ) (k : ℕ) (l : List ℕ) → bodyLength k ≡ 0 → recordsFrom arities (k ∷ l) ≡ plainRecord k ∷ recordsFrom arities l
+unfolding recordsPast recordAt
+records-plain arities k l e = ap (λ (n : ℕ). let r = recordOf (withBody k n l) in recordThen arities r (recordsPast arities (r .len - 1) l)) e
 
-records-long : (arities : List ℕ) (k b : ℕ) (l : List ℕ) → hasBody k ≡ true → recordsFrom arities (k ∷ b ∷ l) ≡ longRecord arities k b ∷ recordsFrom arities l
-unfolding recordsFrom
-records-long arities k b l e = ap (λ (x : Bool). pick x (longRecord arities k b ∷ recordsFrom arities l) (plainRecord k ∷ recordsFrom arities (b ∷ l))) e
+records-long : (arities : List ℕ) (k b : ℕ) (l : List ℕ) → bodyLength k ≡ 1 → recordsFrom arities (k ∷ b ∷ l) ≡ longRecord arities k b ∷ recordsFrom arities l
+unfolding recordsPast recordAt
+records-long arities k b l e = ap (λ (n : ℕ). let r = recordOf (withBody k n (b ∷ l)) in recordThen arities r (recordsPast arities (r .len - 1) (b ∷ l))) e
 
 low-call : (b : ℕ) → b ≤ 5 → 0x18 ∷ b ∷ [] ≡ callBytes b
 low-call b h = sym (ap (λ (x : Bool). pick x (0x18 ∷ b ∷ []) (0x19 ∷ (b - 16) ∷ [])) (lt-ltb b 16 (omega arith)))

@@ -1,17 +1,14 @@
 -- The records that the bytes of terms are, one after the other, and the terms that stand there. `arities` has the arity of each function.
---
 use mathlib.Core.Path.{_≡_}
-use Prim.Native.Nat.{ℕ, zero, suc, _+_, _≤_}
-use mathlib.Core.Bool.{Bool, false}
+use Prim.Native.Nat.{ℕ, zero, suc, _+_, _-_, _≤_}
+use mathlib.Core.Bool.{_||_}
 use mathlib.Core.List.{List, [], _∷_}
-use lib.Dec.{eqb, leb, ltb}
+use lib.Dec.{eqb}
 use lib.ListN.{length, getD, drop}
 use Rattle.theory.specs.Syntax.{zeroB, trueB, falseB, Term, Terms, pick}
 use Rattle.theory.specs.Bytes.{TermRecord, constantRecord, succRecord, ifRecord, variableRecord, raiseRecord, handleRecord, callRecord, recordParts, recordWords, termsFrom, nthTerm}
-
--- kinds with a body: 14 to 19, but 17
-abbrev pub hasBody : ℕ → Bool
-hasBody k = pick (ltb k 0x14) false (pick (eqb k 0x17) false (leb k 0x19))
+use Rattle.record.specs.declared.Record.{Record}
+use Rattle.record.specs.Record.{recordAt}
 
 -- a record by its kind and body, where the kind is one of a term's
 abbrev pub plainRecord : ℕ → TermRecord
@@ -21,11 +18,23 @@ abbrev pub longRecord : List ℕ → ℕ → ℕ → TermRecord
 longRecord arities k b =
     pick (eqb k 0x14) (variableRecord b) (pick (eqb k 0x15) (raiseRecord b) (pick (eqb k 0x16) (handleRecord b) (pick (eqb k 0x18) (callRecord b (getD arities b 0)) (callRecord (16 + b) (getD arities (16 + b) 0)))))
 
--- the records of the bytes; a record that is cut short is none
-unfoldable pub recordsFrom : List ℕ → List ℕ → List TermRecord
-recordsFrom arities [] = []
-recordsFrom arities (k ∷ []) = pick (hasBody k) [] (plainRecord k ∷ [])
-recordsFrom arities (k ∷ b ∷ bs) = pick (hasBody k) (longRecord arities k b ∷ recordsFrom arities bs) (plainRecord k ∷ recordsFrom arities (b ∷ bs))
+-- the record of a term that a record of bytes is; those of one byte have no body
+abbrev pub termRecordOf : List ℕ → Record → TermRecord
+termRecordOf arities r = pick (eqb (r .len) 1) (plainRecord (r .kind)) (longRecord arities (r .kind) (r .body))
+
+-- a record before others; one that is cut short is none, and no record of a term has three bytes
+abbrev pub recordThen : List ℕ → Record → List TermRecord → List TermRecord
+recordThen arities r ks = pick (eqb (r .len) 1 || eqb (r .len) 2) (termRecordOf arities r ∷ ks) []
+
+-- the records of the bytes behind the first n
+unfoldable pub recordsPast : List ℕ → ℕ → List ℕ → List TermRecord
+recordsPast arities zero [] = []
+recordsPast arities zero (k ∷ bs) = recordThen arities (recordAt (k ∷ bs) 0) (recordsPast arities (recordAt (k ∷ bs) 0 .len - 1) bs)
+recordsPast arities (suc n) [] = []
+recordsPast arities (suc n) (k ∷ bs) = recordsPast arities n bs
+
+abbrev pub recordsFrom : List ℕ → List ℕ → List TermRecord
+recordsFrom arities bytes = recordsPast arities 0 bytes
 
 -- the bytes of a record
 abbrev pub recordBytes : TermRecord → ℕ

@@ -2,13 +2,13 @@
 use Prim.Native.Nat.{ℕ, _+_}
 use mathlib.Core.List.{List, [], _∷_, _++_}
 use lib.Dec.{eqb}
-use lib.ListN.{getD}
 use Rattle.theory.specs.Syntax.{zeroB, trueB, falseB, Terms, pick}
 use Rattle.theory.specs.Words.{words}
 use Rattle.theory.specs.Translation.{aux, tree}
 use Rattle.theory.specs.Bytes.{TermRecord, constantRecord, succRecord, ifRecord, variableRecord, raiseRecord, handleRecord, callRecord, recordParts, nthTerm}
+use Rattle.record.specs.Record.{recordAt}
 use Rattle.records.specs.declared.roots.Root.{Root}
-use Rattle.records.specs.Records.{hasBody, plainRecord, longRecord, recordBytes}
+use Rattle.records.specs.Records.{termRecordOf, recordBytes}
 
 abbrev pub wordOf : TermRecord → ℕ
 wordOf (constantRecord zeroB) = 1
@@ -35,11 +35,11 @@ abbrev pub rootOf : TermRecord → ℕ → Root
 rootOf k next = record { word = wordOf k; parts = recordParts k; exception = exceptionOf k; next = next }
 
 -- the record at the place p
-abbrev pub recordAt : List ℕ → List ℕ → ℕ → TermRecord
-recordAt arities bytes p = pick (hasBody (getD bytes p 0)) (longRecord arities (getD bytes p 0) (getD bytes (p + 1) 0)) (plainRecord (getD bytes p 0))
+abbrev pub termRecordAt : List ℕ → List ℕ → ℕ → TermRecord
+termRecordAt arities bytes p = termRecordOf arities (recordAt bytes p)
 
 abbrev pub rootAt : List ℕ → List ℕ → ℕ → Root
-rootAt arities bytes p = rootOf (recordAt arities bytes p) (p + recordBytes (recordAt arities bytes p))
+rootAt arities bytes p = rootOf (termRecordAt arities bytes p) (p + recordBytes (termRecordAt arities bytes p))
 
 -- the words at a term's root, before its first part: the word, and behind raise its exception
 abbrev pub rootWords : ℕ → ℕ → List ℕ

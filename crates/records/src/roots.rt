@@ -1,8 +1,9 @@
 // The record at a term's root: its word, its parts, its exception.
+use record::record_at;
 ghost use mathlib.Core.Path.{_≡_};
 ghost use Prim.Native.Nat.{_<_};
 ghost use lib.ListN.{getD};
-ghost use Rattle.records.specs.Records.{hasBody, plainRecord, longRecord, Whole, from};
+ghost use Rattle.records.specs.Records.{plainRecord, longRecord, Whole, from};
 ghost use Rattle.records.specs.Roots.{rootOf, rootAt};
 
 // The root of a term: its word, how many parts follow, the word of its exception (0 where it has none), the place behind it.
@@ -18,19 +19,6 @@ fn wide(b: u8) -> u16
     ensures { λ r. ⌜ r < 256 ⌝ }
 {
     b as u16
-}
-
-// Whether a record of this kind has a body.
-fn has_body(kind: u8) -> bool
-    ensures { λ r. ⌜ r ≡ hasBody kind ⌝ }
-{
-    if kind < 0x14 {
-        return false;
-    }
-    if kind == 0x17 {
-        return false;
-    }
-    kind <= 0x19
 }
 
 // The arity of function k; 0 where there is none.
@@ -110,9 +98,10 @@ pub fn root_at(arities: &[u8], bytes: &[u8], p: usize) -> Root
     requires { ⌜ Whole (from (now arities) (now bytes) p) 1 ⌝ }
     ensures { λ r. ⌜ r ≡ rootAt (now (arities .entry)) (now (bytes .entry)) p ⌝ }
 {
-    let kind = bytes[p];
-    if has_body(kind) {
-        return long_root(arities, kind, wide(bytes[p + 1]), p + 2);
+    let r = record_at(bytes, p);
+    let next = p + r.len;
+    if r.len == 1 {
+        return plain_root(r.kind, next);
     }
-    plain_root(kind, p + 1)
+    long_root(arities, r.kind, wide(r.body), next)
 }

@@ -30,7 +30,7 @@ pub fn rewrite<'a>(
     allowance: usize,
     room: usize,
 ) -> Answer
-    requires { ⌜ (room ≤ length (now first)) × ((room ≤ length (now second)) × (room ≤ 65536)) ⌝ }
+    requires { ⌜ (room ≤ length (now first)) × ((room ≤ length (now second)) × (room ≤ 4096)) ⌝ }
     requires { ⌜ allowance ≤ 1000000 ⌝ }
     ensures { λ r. ⌜ r ≡ answerW (runOn (now (arities .entry)) (now (standing .entry)) (now (own .entry)) (now («standing_index» .entry)) (now («own_index» .entry)) (now (question .entry)) room allowance) ⌝ }
     ensures { λ _. ⌜ now (first .exit) ≡ over (padded room (runOn (now (arities .entry)) (now (standing .entry)) (now (own .entry)) (now («standing_index» .entry)) (now («own_index» .entry)) (now (question .entry)) room allowance .term)) (now (first .entry)) ⌝ }

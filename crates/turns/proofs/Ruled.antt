@@ -2,11 +2,12 @@
 use mathlib.Core.Path.{_≡_, refl, sym, ap, ap₂, subst, _∙_}
 use mathlib.Core.Bool.{Bool, true, false}
 use mathlib.Core.Option.{Option, none, some}
-use mathlib.Core.List.{List, [], _∷_}
+use mathlib.Core.List.{List, [], _∷_, _++_}
 use Prim.Native.Nat.{ℕ, zero, suc, _+_, _-_, _≤_, _<_}
 use native.Mathlib.Omega.{arith}
 use lib.Dec.{eqb, ltb}
-use lib.ListN.{length, getD, take, drop, set, replicate, drop-of-length-le}
+use lib.ListN.{length, getD, take, drop, set, replicate, drop-of-length-le, length-append}
+use lib.Seq.{length-take-le, take-at}
 use borrow.Author.Tests.{lt-ltb, le-ltb, ltb-true}
 use Rattle.theory.specs.Syntax.{pick}
 use Rattle.theory.specs.Words.{isVar}
@@ -17,14 +18,16 @@ use Rattle.words.proofs.Skips.{skip-reach, drop-next}
 use Rattle.rules.specs.Matching.{takes, reached, noted, binds}
 use Rattle.rules.specs.declared.matching.Bound.{Bound}
 use Rattle.place.specs.Path.{siteAt}
+use Rattle.place.specs.Noted.{OnPath}
+use Rattle.place.proofs.Noted.{path-kept}
 use Rattle.place.specs.declared.Site.{Site}
 use Rattle.place.specs.declared.Site.the-variants.{Nothing, At}
 use Rattle.theory.specs.Buffers.{part}
-use Rattle.splice.specs.Right.{Within, placed, writtenOf, stepOf}
+use Rattle.splice.specs.Right.{Within, placed, writtenOf, new, stepOf}
 use Rattle.splice.specs.declared.Written.{Written}
 use Rattle.turns.specs.declared.step.Next.{Next}
 use Rattle.turns.specs.declared.step.Next.the-variants as next
-use Rattle.turns.specs.Next.{left, right, boundBy, pastBy, endBy, endOf, ruled, sited, nextW, made, nextIn, placedNext}
+use Rattle.turns.specs.Next.{left, right, boundBy, pastBy, endBy, endOf, ruled, sited, nextW, made, nextIn, placedNext, OnNext}
 use Rattle.rules.specs.Finding.{fittingOf, ruleOf}
 use Rattle.rules.specs.declared.finding.Fitting.{Fitting}
 
@@ -191,3 +194,33 @@ module _ (ks standing own si oi ws : List ℕ) where
   pub next-ruled : (p : ℕ) (rule : Fitting) → S ≡ At p rule → N ≡ ruled ks (ruleOf standing own rule) ws p
   unfolding nextW
   next-ruled p rule e = ap (λ (s : Site). sited s (λ p rule. ruled ks (ruleOf standing own rule) ws p) none) e
+
+-- ---- a rule's use leaves what stands before the place
+ruled-front : (ks rule ws : List ℕ) (p : ℕ) (u : List ℕ) → ruled ks rule ws p ≡ some u → p ≤ length ws → (take p u ≡ take p ws) × (p ≤ length u)
+unfolding ruled
+ruled-front ks rule ws p u e h = go (ltb (length rule) 2) (ltb (length rule) (2 + getD rule 0 0 + getD rule 1 0)) (ltb (length ws) (endOf ks rule ws p)) e
+  where
+    tail : List ℕ
+    tail = new (part p (length ws) ws) (boundBy ks rule (part p (length ws) ws) .starts) (boundBy ks rule (part p (length ws) ws) .ends) (right rule) ++ drop (endOf ks rule ws p) ws
+
+    never-some : {A : Type 0} → none ≡ some u → A
+    never-some e = absurd (let z : _≡_ {A = ℕ} 0 1 = cc in omega arith)
+
+    go : (a b c : Bool) → pick a none (pick b none (pick c none (some (take p ws ++ tail)))) ≡ some u → (take p u ≡ take p ws) × (p ≤ length u)
+    go true b c e = never-some e
+    go false true c e = never-some e
+    go false false true e = never-some e
+    go false false false e =
+        let same : u ≡ take p ws ++ tail = cc in
+        let l : length (take p ws) ≡ p = length-take-le p ws h in
+        (ap (take p) same ∙ take-at (take p ws) tail p l, subst (λ (x : List ℕ). p ≤ length x) (sym same) (omega (arith, length-append (take p ws) tail, l)))
+
+-- so the path that was noted to it is the next term's
+pub on-next : (ks rule ws : List ℕ) (p : ℕ) (path : List ℕ) (n : ℕ) → getD path n 0 ≡ p → OnPath ks ws path n → (o : Option (List ℕ)) → o ≡ ruled ks rule ws p → OnNext ks o path n
+on-next ks rule ws p path n e h none q = tt
+on-next ks rule ws p path n e h (some u) q =
+    let f = ruled-front ks rule ws p u (sym q) (subst (λ (x : ℕ). x ≤ length ws) e (h .ends)) in
+    path-kept ks ws u p (f .0) path n h e (f .1)
+
+pub on-none : (ks : List ℕ) (o : Option (List ℕ)) (path : List ℕ) (n : ℕ) → o ≡ none → OnNext ks o path n
+on-none ks o path n e = subst (λ (o : Option (List ℕ)). OnNext ks o path n) (sym e) tt

@@ -1,5 +1,5 @@
 -- The laws of runs and of turns.
-use mathlib.Core.Path.{_≡_, refl, sym, ap, subst₂, _∙_}
+use mathlib.Core.Path.{_≡_, refl, sym, ap, subst, subst₂, _∙_}
 use mathlib.Core.Bool.{Bool, true, false, not}
 use mathlib.Core.Option.{Option, none, some}
 use mathlib.Core.List.{List, []}
@@ -23,7 +23,8 @@ use Rattle.turns.specs.declared.run.Driven.{Driven}
 use Rattle.turns.specs.declared.run.Ran.{Ran}
 use Rattle.turns.specs.declared.run.Move.{Move}
 use Rattle.turns.specs.declared.run.Move.the-variants.{Stop, Go}
-use Rattle.turns.specs.Next.{nextIn, made, placedNext}
+use Rattle.place.specs.Noted.{OnPath}
+use Rattle.turns.specs.Next.{nextIn, made, placedNext, OnNext}
 use Rattle.turns.specs.Run.{source, Turned, Drove, isNothing, decided, Last, stop, go, run, runFrom, ranOf}
 
 -- ---- a run's first turn
@@ -125,6 +126,15 @@ pub turned-on : (next : List ℕ → Option (List ℕ)) (flip : Bool) (room size
     → (r ≡ nextIn room (next (take size (source flip f s)))) × Turned next flip room size f s f s′
 turned-on next false room size f s s′ r e p q = (p, record { kept = refl; other = q })
 turned-on next true room size f s s′ r e p q = never (cc)
+
+-- the buffer that holds the term
+pub in-second : (flip : Bool) (f s : List ℕ) → flip ≡ true → source flip f s ≡ s
+in-second true f s e = refl
+in-second false f s e = never (cc)
+
+pub in-first : (flip : Bool) (f s : List ℕ) → flip ≡ false → source flip f s ≡ f
+in-first false f s e = refl
+in-first true f s e = never (cc)
 
 placed-fits : (room : ℕ) (u d : List ℕ) → length u ≤ room → room ≤ length d → take (length u) (placed room u d) ≡ u
 placed-fits room u d h k = ap (λ (b : Bool). take (length u) (pick b (over u d) d)) (le-leb (length u) room h) ∙ take-over u d (omega arith)
@@ -257,6 +267,16 @@ module _ (next : List ℕ → Option (List ℕ)) (room allowance : ℕ) (t₀ f�
         first-length = lf ∙ g .first-length;
         second-length = ls ∙ g .second-length;
       }
+
+  -- the path that was noted is the term's that the run goes on with
+  pub goes-on-path : (ks path : List ℕ) (last n : ℕ) → decided answer steps allowance ≡ Go n → length f ≡ length f₀ → length s ≡ length s₀ → OnNext ks (next (take size (source flip f s))) path last
+      → OnPath ks (take n (source (not flip) f′ s′)) path last
+  goes-on-path ks path last n q lf ls on =
+      let says = says-made room n (next (take size (source flip f s))) (more n q .made) in
+      let u = says .0 in
+      let short : length u ≤ room = omega arith in
+      let here = ap (λ (m : ℕ). take m (source (not flip) f′ s′)) (sym (says .1 .1 .0)) ∙ turned-next next flip room size f s f′ s′ u h (says .1 .0) short (omega arith) (omega arith) in
+      subst (λ (t : List ℕ). OnPath ks t path last) (sym here) (subst (λ (o : Option (List ℕ)). OnNext ks o path last) (says .1 .0) on)
 
 -- ---- the buffers set in order
 pub fetched-none : (flip : Bool) (size : ℕ) (f s : List ℕ) → flip ≡ false → f ≡ over (take size (source flip f s)) f

@@ -11,6 +11,7 @@ use Rattle.rules.specs.declared.matching.Bound.{Bound}
 use Rattle.rules.specs.Finding.{fittingOf, ruleOf}
 use Rattle.rules.specs.declared.finding.Fitting.{Fitting}
 use Rattle.place.specs.Path.{siteAt}
+use Rattle.place.specs.Noted.{OnPath}
 use Rattle.place.specs.declared.Site.{Site}
 use Rattle.place.specs.declared.Site.the-variants.{Nothing, At}
 use Rattle.theory.specs.Buffers.{part}
@@ -73,3 +74,8 @@ nextIn room (some u) = made (writtenOf room u)
 abbrev pub placedNext : ℕ → Option (List ℕ) → List ℕ → List ℕ
 placedNext room none d = d
 placedNext room (some u) d = placed room u d
+
+-- the path is noted up to place number n of the next term, where there is one
+abbrev pub OnNext : List ℕ → Option (List ℕ) → List ℕ → ℕ → Type 0
+OnNext ks none path n = Unit {0}
+OnNext ks (some u) path n = OnPath ks u path n

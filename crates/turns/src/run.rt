@@ -1,15 +1,17 @@
 // The run: two lent buffers take turns, the term lives in one and the next one is made in the other. A flag says which of the two
 // holds the term.
 use crate::step::Next;
+use crate::step::Step;
 use crate::step::next_into;
 use words::slices::copy_into;
 use words::slices::zero_from;
 ghost use mathlib.Core.Path.{_≡_};
-ghost use Prim.Native.Nat.{_≤_};
+ghost use Prim.Native.Nat.{_≤_, _<_};
 ghost use lib.Dec.{leb};
-ghost use lib.ListN.{length, take, replicate};
+ghost use lib.ListN.{length, getD, take, replicate};
 ghost use Rattle.theory.specs.Buffers.{over, padded};
-ghost use Rattle.turns.specs.Next.{nextW, nextIn};
+ghost use Rattle.place.specs.Noted.{OnPath};
+ghost use Rattle.turns.specs.Next.{nextW, nextIn, OnNext};
 ghost use Rattle.turns.specs.Run.{Turned, Drove, isNothing, decided, source, ranOf, run, runFrom};
 
 // How a run ends.
@@ -55,10 +57,14 @@ fn turn<'a>(
     flip: bool,
     size: usize,
     room: usize,
-) -> Next
-    requires { ⌜ (size ≤ room) × ((room ≤ length (now first)) × ((room ≤ length (now second)) × (room ≤ 65536))) ⌝ }
-    ensures { λ r. ⌜ r ≡ nextIn room ((nextW (now (arities .entry)) (now (standing .entry)) (now (own .entry)) (now («standing_index» .entry)) (now («own_index» .entry))) (take size (source flip (now (first .entry)) (now (second .entry))))) ⌝ }
+    path: &mut [usize],
+    last: usize,
+) -> Step
+    requires { ⌜ (size ≤ room) × ((room ≤ length (now first)) × ((room ≤ length (now second)) × ((room ≤ 65536) × (room < length (now path))))) ⌝ }
+    requires { ⌜ OnPath (now arities) (take size (source flip (now first) (now second))) (now path) last ⌝ }
+    ensures { λ r. ⌜ r .next ≡ nextIn room ((nextW (now (arities .entry)) (now (standing .entry)) (now (own .entry)) (now («standing_index» .entry)) (now («own_index» .entry))) (take size (source flip (now (first .entry)) (now (second .entry))))) ⌝ }
     ensures { λ _. ⌜ Turned (nextW (now (arities .entry)) (now (standing .entry)) (now (own .entry)) (now («standing_index» .entry)) (now («own_index» .entry))) flip room size (now (first .entry)) (now (second .entry)) (now (first .exit)) (now (second .exit)) ⌝ }
+    ensures { λ r. ⌜ OnNext (now (arities .entry)) (nextW (now (arities .entry)) (now (standing .entry)) (now (own .entry)) (now («standing_index» .entry)) (now («own_index» .entry)) (take size (source flip (now (first .entry)) (now (second .entry))))) (now (path .exit)) (r .last) ⌝ }
 {
     if flip {
         next_into(
@@ -70,6 +76,8 @@ fn turn<'a>(
             &second[..size],
             first,
             room,
+            path,
+            last,
         )
     } else {
         next_into(
@@ -81,6 +89,8 @@ fn turn<'a>(
             &first[..size],
             second,
             room,
+            path,
+            last,
         )
     }
 }
@@ -120,7 +130,7 @@ fn decide(next: Next, steps: usize, allowance: usize) -> Move
     Move::Stop(Ending::Big, steps + 1)
 }
 
-// The turns of a run.
+// The turns of a run. The path to the place that was rewritten last is noted, from the root on.
 fn drive<'a>(
     arities: &[u8],
     standing: &'a [u16],
@@ -132,16 +142,19 @@ fn drive<'a>(
     len: usize,
     allowance: usize,
     room: usize,
+    path: &mut [usize],
 ) -> Driven
-    requires { ⌜ (len ≤ room) × ((room ≤ length (now first)) × ((room ≤ length (now second)) × (room ≤ 65536))) ⌝ }
+    requires { ⌜ (len ≤ room) × ((room ≤ length (now first)) × ((room ≤ length (now second)) × ((room ≤ 65536) × (room < length (now path))))) ⌝ }
+    requires { ⌜ getD (now path) 0 0 ≡ 0 ⌝ }
     requires { ⌜ allowance ≤ 1000000 ⌝ }
     ensures { λ r. ⌜ Drove room (run (nextW (now (arities .entry)) (now (standing .entry)) (now (own .entry)) (now («standing_index» .entry)) (now («own_index» .entry))) room allowance 0 (take len (now (first .entry)))) r (now (first .entry)) (now (second .entry)) (now (first .exit)) (now (second .exit)) ⌝ }
 {
     let mut flip = false;
     let mut size = len;
     let mut steps = 0;
+    let mut last = 0;
     loop {
-        let next = turn(
+        let step = turn(
             arities,
             standing,
             own,
@@ -152,7 +165,10 @@ fn drive<'a>(
             flip,
             size,
             room,
+            path,
+            last,
         );
+        let next = step.next;
         match decide(next, steps, allowance) {
             Move::Stop(ending, count) => {
                 return Driven {
@@ -166,6 +182,7 @@ fn drive<'a>(
                 flip = !flip;
                 size = n;
                 steps += 1;
+                last = step.last;
             }
         }
     }
@@ -206,12 +223,13 @@ pub fn run_in<'a>(
     allowance: usize,
     room: usize,
 ) -> Ran
-    requires { ⌜ (len ≤ room) × ((room ≤ length (now first)) × ((room ≤ length (now second)) × (room ≤ 65536))) ⌝ }
+    requires { ⌜ (len ≤ room) × ((room ≤ length (now first)) × ((room ≤ length (now second)) × (room ≤ 4096))) ⌝ }
     requires { ⌜ allowance ≤ 1000000 ⌝ }
     ensures { λ r. ⌜ r ≡ ranOf (run (nextW (now (arities .entry)) (now (standing .entry)) (now (own .entry)) (now («standing_index» .entry)) (now («own_index» .entry))) room allowance 0 (take len (now (first .entry)))) ⌝ }
     ensures { λ _. ⌜ now (first .exit) ≡ over (padded room (run (nextW (now (arities .entry)) (now (standing .entry)) (now (own .entry)) (now («standing_index» .entry)) (now («own_index» .entry))) room allowance 0 (take len (now (first .entry))) .term)) (now (first .entry)) ⌝ }
     ensures { λ _. ⌜ now (second .exit) ≡ over (replicate room 0) (now (second .entry)) ⌝ }
 {
+    let mut path = [0usize; 4097];
     let d = drive(
         arities,
         standing,
@@ -223,6 +241,7 @@ pub fn run_in<'a>(
         len,
         allowance,
         room,
+        &mut path,
     );
     let flip = d.flip;
     let size = d.len;
@@ -249,7 +268,7 @@ pub fn start<'a>(
     allowance: usize,
     room: usize,
 ) -> Ran
-    requires { ⌜ (room ≤ length (now first)) × ((room ≤ length (now second)) × (room ≤ 65536)) ⌝ }
+    requires { ⌜ (room ≤ length (now first)) × ((room ≤ length (now second)) × (room ≤ 4096)) ⌝ }
     requires { ⌜ allowance ≤ 1000000 ⌝ }
     ensures { λ r. ⌜ r ≡ ranOf (runFrom (nextW (now (arities .entry)) (now (standing .entry)) (now (own .entry)) (now («standing_index» .entry)) (now («own_index» .entry))) room allowance (now (term .entry))) ⌝ }
     ensures { λ _. ⌜ now (first .exit) ≡ over (padded room (runFrom (nextW (now (arities .entry)) (now (standing .entry)) (now (own .entry)) (now («standing_index» .entry)) (now («own_index» .entry))) room allowance (now (term .entry)) .term)) (now (first .entry)) ⌝ }

@@ -1,17 +1,18 @@
 // A step: the deepest place that a rule fits is rewritten by that rule, from the buffer that holds the term into the other.
 use place::Site;
 use place::rule_of;
-use place::site_from;
+use place::site_on;
 use rules::matching::bind;
 use rules::matching::is_var;
 use rules::matching::word;
 use splice::Written;
 use splice::step_into;
 ghost use mathlib.Core.Path.{_≡_};
-ghost use Prim.Native.Nat.{_≤_};
+ghost use Prim.Native.Nat.{_≤_, _<_};
 ghost use lib.ListN.{length};
+ghost use Rattle.place.specs.Noted.{OnPath};
 ghost use Rattle.splice.specs.Right.{Within};
-ghost use Rattle.turns.specs.Next.{pastBy, endBy, ruled, nextW, made, nextIn, placedNext};
+ghost use Rattle.turns.specs.Next.{pastBy, endBy, ruled, nextW, made, nextIn, placedNext, OnNext};
 
 // The answer of a step.
 pub enum Next {
@@ -92,7 +93,14 @@ fn apply_rule(
     made_by(step_into(term, p, e, &rule[from..to], &starts, &ends, second, room))
 }
 
-// The next term, in the second buffer: the deepest place of the path that a rule fits is rewritten.
+// A step's answer, and the number of the rewritten place on the path.
+pub struct Step {
+    pub next: Next,
+    pub last: usize,
+}
+
+// The next term, in the second buffer: the deepest place of the path that a rule fits is rewritten. The path is noted up to its place
+// number `last`, and afterwards up to the rewritten place: the step leaves what stands before it.
 pub fn next_into<'a>(
     arities: &[u8],
     standing: &'a [u16],
@@ -102,16 +110,33 @@ pub fn next_into<'a>(
     term: &[u16],
     second: &mut [u16],
     room: usize,
-) -> Next
-    requires { ⌜ (length (now term) ≤ room) × ((room ≤ length (now second)) × (room ≤ 65536)) ⌝ }
-    ensures { λ r. ⌜ r ≡ nextIn room (nextW (now (arities .entry)) (now (standing .entry)) (now (own .entry)) (now («standing_index» .entry)) (now («own_index» .entry)) (now (term .entry))) ⌝ }
+    path: &mut [usize],
+    last: usize,
+) -> Step
+    requires { ⌜ (length (now term) ≤ room) × ((room ≤ length (now second)) × ((room ≤ 65536) × (room < length (now path)))) ⌝ }
+    requires { ⌜ OnPath (now arities) (now term) (now path) last ⌝ }
+    ensures { λ r. ⌜ r .next ≡ nextIn room (nextW (now (arities .entry)) (now (standing .entry)) (now (own .entry)) (now («standing_index» .entry)) (now («own_index» .entry)) (now (term .entry))) ⌝ }
     ensures { λ _. ⌜ now (second .exit) ≡ placedNext room (nextW (now (arities .entry)) (now (standing .entry)) (now (own .entry)) (now («standing_index» .entry)) (now («own_index» .entry)) (now (term .entry))) (now (second .entry)) ⌝ }
+    ensures { λ r. ⌜ OnNext (now (arities .entry)) (nextW (now (arities .entry)) (now (standing .entry)) (now (own .entry)) (now («standing_index» .entry)) (now («own_index» .entry)) (now (term .entry))) (now (path .exit)) (r .last) ⌝ }
 {
-    match site_from(arities, standing, own, standing_index, own_index, term, 0) {
+    let found = site_on(
+        arities,
+        standing,
+        own,
+        standing_index,
+        own_index,
+        term,
+        path,
+        last,
+    );
+    let site = found.site;
+    let last = found.number;
+    let next = match site {
         Site::Nothing => Next::Nothing,
         Site::At { place, rule } => {
             let part = rule_of(standing, own, rule);
             apply_rule(arities, part, term, place, second, room)
         }
-    }
+    };
+    Step { next, last }
 }

@@ -1,16 +1,21 @@
 -- The laws of `past`, `skipAt` and `partAt` over any words: what the proofs of skip and of its callers cite.
-use mathlib.Core.Path.{_≡_, refl, ap}
+use mathlib.Core.Path.{_≡_, refl, sym, ap, subst, _∙_}
+use mathlib.Core.Bool.{Bool, true, false}
+use mathlib.Core.Logic.{_≢_}
 use mathlib.Core.List.{List, [], _∷_}
 use Prim.Native.Nat.{ℕ, zero, suc, _+_, _-_, _≤_, _<_}
 use native.Mathlib.Nat.{add-assoc, suc-add, zero-add, add-zero}
 use native.Mathlib.Numerals.{add-one}
 use native.Mathlib.Omega.{arith}
-use lib.ListN.{length, getD, drop, length-drop, drop-of-length-le}
+use lib.Dec.{eqb}
+use lib.ListN.{length, getD, take, drop, length-drop, drop-of-length-le}
 use lib.Seq.{drop-drop, drop-cons}
 use borrow.Author.Tests.{lt-ltb, le-ltb}
+use Rattle.theory.specs.Syntax.{pick}
+use Rattle.theory.proofs.Tests.{eqb-true, eqb-false, ne-of-eqb, eq-of-eqb}
 use Rattle.words.specs.declared.terms.Reach.{Reach}
 use Rattle.words.specs.declared.terms.Reach.the-variants.{End, Short}
-use Rattle.words.specs.Terms.{arityOf, past, skipAt, partIn, partAt}
+use Rattle.words.specs.Terms.{arityOf, past, skipAt, succsEnd, partIn, partAt}
 
 -- the two answers differ
 pub short-end : (o : Reach) (q : ℕ) → o ≡ Short → o ≡ End q → ⊥
@@ -33,6 +38,23 @@ past-reach ar [] zero p q e = let h : p ≡ q = cc in omega arith
 past-reach ar [] (suc m) p q e = absurd (short-end _ q refl e)
 past-reach ar (w ∷ ws) zero p q e = let h : p ≡ q = cc in omega arith
 past-reach ar (w ∷ ws) (suc m) p q e = omega (arith, past-reach ar ws (ar w + m) (p + 1) q e)
+
+-- no more is read than the terms themselves
+pub past-front : (ar : ℕ → ℕ) (l m : List ℕ) (n p q : ℕ) → past ar l n p ≡ End q → take (q - p) m ≡ take (q - p) l → past ar m n p ≡ End q
+unfolding past
+past-front ar [] m zero p q e h = past-none ar m p ∙ e
+past-front ar [] m (suc n) p q e h = absurd (short-end _ q refl e)
+past-front ar (w ∷ l) m zero p q e h = past-none ar m p ∙ e
+past-front ar (w ∷ l) m (suc n) p q e h =
+    let z : q - p ≡ suc (q - (p + 1)) = omega (arith, past-reach ar l (ar w + n) (p + 1) q e) in
+    go m (subst (λ (k : ℕ). take k m ≡ take k (w ∷ l)) z h) (λ x k. past-front ar l x (ar w + n) (p + 1) q e k)
+  where
+    go : (m : List ℕ) → take (suc (q - (p + 1))) m ≡ w ∷ take (q - (p + 1)) l → ((x : List ℕ) → take (q - (p + 1)) x ≡ take (q - (p + 1)) l → past ar x (ar w + n) (p + 1) ≡ End q) → past ar m (suc n) p ≡ End q
+    go [] k on = absurd (let y : _≡_ {A = ℕ} 0 1 = cc in omega arith)
+    go (x ∷ m) k on =
+        let same : x ≡ w = cc in
+        let rest : take (q - (p + 1)) m ≡ take (q - (p + 1)) l = cc in
+        ap (λ (v : ℕ). past ar m (ar v + n) (p + 1)) same ∙ on m rest
 
 -- fewer words than terms
 pub past-few : (ar : ℕ → ℕ) (l : List ℕ) (n p : ℕ) → length l < n → past ar l n p ≡ Short
@@ -65,6 +87,48 @@ past-short ar [] (suc m) n p e = rw suc-add
 past-short ar (w ∷ ws) zero n p e = absurd (short-end _ p e refl)
 past-short ar (w ∷ ws) (suc m) n p e = rw (suc-add, ← add-assoc) (past-short ar ws (ar w + m) n (p + 1) e)
 
+-- a run of succs ends no earlier than it starts
+succs-reach : (l : List ℕ) (p : ℕ) → p ≤ succsEnd l p
+unfolding succsEnd
+succs-reach [] p = omega arith
+succs-reach (w ∷ l) p = go (eqb w 2) (succs-reach l (p + 1))
+  where
+    go : (b : Bool) → p + 1 ≤ succsEnd l (p + 1) → p ≤ pick b (succsEnd l (p + 1)) p
+    go true h = omega arith
+    go false h = omega arith
+
+-- succ has one part: under a run of succs the next term ends where it ended
+past-succs : (ks l : List ℕ) (p : ℕ) → past (arityOf ks) (drop (succsEnd l p - p) l) 1 (succsEnd l p) ≡ past (arityOf ks) l 1 p
+unfolding past arityOf succsEnd
+past-succs ks [] p = let z : p - p ≡ 0 = omega arith in rw z
+past-succs ks (w ∷ l) p = go (eqb w 2) refl (past-succs ks l (p + 1))
+  where
+    from : ℕ → Type 0
+    from q = past (arityOf ks) (drop (q - p) (w ∷ l)) 1 q ≡ past (arityOf ks) l (arityOf ks w + 0) (p + 1)
+
+    go : (b : Bool) → eqb w 2 ≡ b → past (arityOf ks) (drop (succsEnd l (p + 1) - (p + 1)) l) 1 (succsEnd l (p + 1)) ≡ past (arityOf ks) l 1 (p + 1) → from (pick b (succsEnd l (p + 1)) p)
+    go true e h =
+        let z : succsEnd l (p + 1) - p ≡ suc (succsEnd l (p + 1) - (p + 1)) = omega (arith, succs-reach l (p + 1)) in
+        rw (z, eq-of-eqb w 2 e) h
+    go false e h = let z : p - p ≡ 0 = omega arith in rw z
+
+-- the run of succs from the place p on
+module _ (ws : List ℕ) (p : ℕ) where
+  pub succs-from : (q : ℕ) → q ≡ succsEnd (drop p ws) p → p ≤ q
+  succs-from q e = subst (λ (n : ℕ). p ≤ n) (sym e) (succs-reach (drop p ws) p)
+
+  pub succs-out : length ws ≤ p → succsEnd (drop p ws) p ≡ p
+  unfolding succsEnd
+  succs-out h = rw (drop-of-length-le ws h)
+
+  pub succs-other : p < length ws → getD ws p 0 ≢ 2 → succsEnd (drop p ws) p ≡ p
+  unfolding succsEnd
+  succs-other h n = rw (drop-next ws p h, eqb-false _ _ n)
+
+  pub succs-next : p < length ws → getD ws p 0 ≡ 2 → succsEnd (drop p ws) p ≡ succsEnd (drop (p + 1) ws) (p + 1)
+  unfolding succsEnd
+  succs-next h e = rw (drop-next ws p h, eqb-true _ _ e)
+
 module _ (ks ws : List ℕ) where
   -- with n terms still to come, a word pays for one of them and adds its own parts
   pub past-step : (p n : ℕ) → 0 < n → p < length ws → past (arityOf ks) (drop p ws) n p ≡ past (arityOf ks) (drop (p + 1) ws) (n - 1 + arityOf ks (getD ws p 0)) (p + 1)
@@ -83,6 +147,16 @@ module _ (ks ws : List ℕ) where
   pub skip-root : (p : ℕ) → p < length ws → skipAt ks ws p ≡ past (arityOf ks) (drop (p + 1) ws) (arityOf ks (getD ws p 0)) (p + 1)
   unfolding past skipAt
   skip-root p h = rw (drop-next ws p h) (ap (λ n. past (arityOf ks) (drop (p + 1) ws) n (p + 1)) (add-zero _))
+
+  -- a term ends where the one under its succs does
+  pub skip-succs : (p q : ℕ) → q ≡ succsEnd (drop p ws) p → skipAt ks ws p ≡ skipAt ks ws q
+  unfolding skipAt
+  skip-succs p q e =
+      let h = succs-from ws p q e in
+      let z : p + (q - p) ≡ q = omega arith in
+      let s : past (arityOf ks) (drop (q - p) (drop p ws)) 1 q ≡ past (arityOf ks) (drop p ws) 1 p =
+      subst (λ (n : ℕ). past (arityOf ks) (drop (n - p) (drop p ws)) 1 n ≡ past (arityOf ks) (drop p ws) 1 p) (sym e) (past-succs ks (drop p ws) p) in
+      sym (rw (drop-drop, z) at s)
 
   -- a term has a word at least, and ends within the words
   pub skip-reach : (p q : ℕ) → skipAt ks ws p ≡ End q → (p < q) × (q ≤ length ws)

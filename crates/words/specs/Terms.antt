@@ -1,7 +1,7 @@
 -- Terms as root-first words: how many parts each symbol has, where a term ends, and where its parts start.
 use Prim.Native.Nat.{ℕ, zero, suc, _+_, _-_, _/_}
 use mathlib.Core.List.{List, [], _∷_}
-use lib.Dec.{ltb}
+use lib.Dec.{eqb, ltb}
 use lib.ListN.{getD, drop}
 use Rattle.theory.specs.Syntax.{pick}
 use Rattle.theory.specs.Buffers.{part}
@@ -26,6 +26,11 @@ past ar (w ∷ ws) (suc n) p = past ar ws (ar w + n) (p + 1)
 -- the place past the term that starts at the place p of ws
 unfoldable pub skipAt : List ℕ → List ℕ → ℕ → Reach
 skipAt ks ws p = past (arityOf ks) (drop p ws) 1 p
+
+-- the place of the first of the words, which stand from the place p on, that is not succ's
+unfoldable pub succsEnd : List ℕ → ℕ → ℕ
+succsEnd [] p = p
+succsEnd (w ∷ ws) p = pick (eqb w 2) (succsEnd ws (p + 1)) p
 
 -- the place of part i, counted from 0, of the term whose words begin here, at the place p: past the root and i parts; Short where the root has no such part
 unfoldable pub partIn : List ℕ → List ℕ → ℕ → ℕ → Reach

@@ -2,7 +2,7 @@
 ghost use mathlib.Core.Path.{_≡_};
 ghost use lib.ListN.{drop};
 ghost use Rattle.words.specs.Parts.{TermPart};
-ghost use Rattle.words.specs.Terms.{arityOf, past, skipAt, partAt, termAt};
+ghost use Rattle.words.specs.Terms.{arityOf, past, skipAt, succsEnd, partAt, termAt};
 
 // The number of parts of each symbol below 13; word 0 is no symbol.
 const FIXED: [u8; 13] = [0, 0, 1, 0, 0, 0, 1, 2, 4, 1, 3, 1, 3];
@@ -30,15 +30,31 @@ pub enum Reach {
     Short,
 }
 
-// The place past the term that starts at `at`: its root is read, and then each of its parts by the same rule.
+// The place of the first word, from `at` on, that is not succ's. A succ has one part, so a term ends where the one under its succs
+// does; values are such runs.
+fn succs_end(words: &[u16], at: usize) -> usize
+    ensures { λ r. ⌜ r ≡ succsEnd (drop at (now (words .entry))) at ⌝ }
+{
+    let mut i = at;
+    while i < words.len() {
+        if words[i] != 2 {
+            return i;
+        }
+        i += 1;
+    }
+    i
+}
+
+// The place past the term that starts at `at`: under its succs its root is read, and then each of its parts by the same rule.
 pub fn skip(arities: &[u8], words: &[u16], at: usize) -> Reach
     ensures { λ r. ⌜ r ≡ skipAt (now (arities .entry)) (now (words .entry)) at ⌝ }
 {
-    if words.len() <= at {
+    let root = succs_end(words, at);
+    if words.len() <= root {
         return Reach::Short;
     }
-    let mut left = arity(arities, words[at]);
-    let mut next = at + 1;
+    let mut left = arity(arities, words[root]);
+    let mut next = root + 1;
     while 0 < left {
         match skip(arities, words, next) {
             Reach::End(e) => {

@@ -10,7 +10,7 @@ use lib.Seq.{take-suc}
 use borrow.Author.Tests.{eq-eqb, ne-eqb, le-leb, lt-leb}
 use Rattle.checker.specs.declared.overlap.Overlap.the-variants.{At, Nowhere}
 use Rattle.checker.specs.Overlap.{patLen, headsMeet, argsMeet, clashAt, anyClash, firstClash}
-use Rattle.checker.proofs.record.Laws.{drop-next}
+use Rattle.record.proofs.Laws.{drop-next}
 
 module _ (ws : List ℕ) (p : ℕ) where
   pub pat-out : length ws ≤ p → p + patLen (drop p ws) ≡ p

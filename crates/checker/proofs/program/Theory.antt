@@ -18,11 +18,11 @@ use Rattle.checker.specs.declared.side.Side.{Side}
 use Rattle.checker.specs.declared.declarations.Top.{Top}
 use Rattle.checker.specs.Answer.{padded, builtins, table}
 use Rattle.theory.specs.Bytes.{openedAt}
-use Rattle.checker.specs.Record.{recordOf, recordAt}
+use Rattle.record.specs.Record.{recordOf, recordAt}
 use Rattle.checker.specs.Side.{noVars, scanFrom, seenIn}
 use Rattle.checker.specs.Declarations.{stopTop, startTop, ownArities, withException, exceptionTurn, withFunction, functionTurn}
 use Rattle.checker.specs.Program.{withRule, rightTurn, leftTurn, sidesTurn, ruleTurn, endTurn, recordTurn, turnOf, turns, parseOf, topAt, topOf}
-use Rattle.checker.proofs.record.Laws.{Behind, behind}
+use Rattle.record.proofs.Laws.{Behind, behind}
 use Rattle.checker.proofs.node.Laws.{nth-getD}
 use Rattle.checker.proofs.side.Scan.{scan-fuel}
 use Rattle.checker.proofs.side.Theory.{Same, scan-is-side}

@@ -10,17 +10,17 @@ use borrow.Author.Tests.{lt-ltb, le-ltb, eq-eqb, ne-eqb, ltb-true, ltb-false, eq
 use Rattle.theory.specs.Syntax.{choose, pick}
 use Rattle.checker.specs.declared.side.Stand.{Stand}
 use Rattle.checker.specs.declared.side.Stand.the-variants.{Left, Right}
-use Rattle.checker.specs.declared.record.Record.{Record}
+use Rattle.record.specs.declared.Record.{Record}
 use Rattle.checker.specs.declared.side.Step.{Step}
 use Rattle.checker.specs.declared.side.Side.{Side}
 use Rattle.checker.specs.declared.declarations.Top.{Top}
-use Rattle.checker.specs.Record.{recordAt}
+use Rattle.record.specs.Record.{recordAt}
 use Rattle.checker.specs.Node.{tokAt}
 use Rattle.checker.specs.Side.{stepOf, mostOf, stopSide, noVars, onStep, onRecord, scan, scanFrom}
 use Rattle.checker.specs.Declarations.{Kept, stopTop, startTop, ownArities, exceptionTurn, functionTurn}
 use Rattle.checker.specs.Program.{rightTurn, leftTurn, sidesTurn, ruleTurn, endTurn, recordTurn, turnOf, turns, parseOf}
 use Rattle.checker.proofs.side.Scan.{choose-same}
-use Rattle.checker.proofs.record.Laws.{record-most}
+use Rattle.record.proofs.Laws.{record-most}
 
 -- a side ends no earlier than it starts
 choose-at : (b : Bool) (x y : Unit {0} → Side) (p : ℕ) → p ≤ x tt .at → p ≤ y tt .at → p ≤ choose b x y .at

@@ -10,13 +10,13 @@ use borrow.Author.Tests.{eq-eqb, ne-eqb, le-leb, lt-leb, eqb-false}
 use Rattle.theory.specs.Syntax.{choose}
 use Rattle.checker.specs.declared.side.Stand.{Stand}
 use Rattle.checker.specs.declared.side.Stand.the-variants.{Left, Right, Asked}
-use Rattle.checker.specs.declared.record.Record.{Record}
+use Rattle.record.specs.declared.Record.{Record}
 use Rattle.checker.specs.declared.side.Step.{Step}
 use Rattle.checker.specs.declared.side.Side.{Side}
-use Rattle.checker.specs.Record.{recordAt}
+use Rattle.record.specs.Record.{recordAt}
 use Rattle.checker.specs.Node.{tokAt}
 use Rattle.checker.specs.Side.{stepOf, mostOf, stopSide, doneSide, onStep, onRecord, scan, scanFrom}
-use Rattle.checker.proofs.record.Laws.{record-most}
+use Rattle.record.proofs.Laws.{record-most}
 
 pub most-small : (m : Stand) → mostOf m ≤ 512
 unfolding mostOf

@@ -14,10 +14,10 @@ use Rattle.theory.specs.Bytes
 use Rattle.checker.specs.declared.side.Step.{Step}
 use Rattle.checker.specs.declared.side.Side.{Side}
 use Rattle.checker.specs.Answer.{declared}
-use Rattle.checker.specs.Record.{recordOf, recordAt}
+use Rattle.record.specs.Record.{recordOf, recordAt}
 use Rattle.checker.specs.Node.{tokAt}
 use Rattle.checker.specs.Side.{stopped, taken, admitted, stepOf, mostOf, onStep, onRecord, scan, standOf, bits, seenIn, sideOf}
-use Rattle.checker.proofs.record.Laws.{Behind, behind}
+use Rattle.record.proofs.Laws.{Behind, behind}
 
 -- eight booleans
 bits-get : (xs : List ℕ) (x : ℕ) → x ≤ 7 → getD (bits xs) x false ≡ elem x xs

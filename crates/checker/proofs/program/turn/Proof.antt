@@ -2,7 +2,7 @@
 use mathlib.Core.Path.{_∙_}
 use native.Mathlib.Omega.{arith}
 use borrow.Author.Needs.{needs}
-use Rattle.checker.proofs.record.Laws.{record-fits}
+use Rattle.record.proofs.Laws.{record-fits}
 use Rattle.checker.proofs.program.Turns.{turn-ends, turn-exception, turn-function, turn-rule, turn-end, turn-unknown}
 use Rattle.checker.proofs.program.turn.Statement.{statement}
 use Rattle.checker.proofs.program.turn.Tie as tie

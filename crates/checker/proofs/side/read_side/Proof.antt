@@ -5,7 +5,7 @@ use native.Mathlib.Omega.{arith}
 use lib.ListN.{length}
 use borrow.Author.Needs.{needs}
 use Rattle.checker.specs.Side.{scanFrom}
-use Rattle.checker.proofs.record.Laws.{record-fits}
+use Rattle.record.proofs.Laws.{record-fits}
 use Rattle.checker.proofs.side.Scan.{most-small, scan-none, scan-ends, scan-refused, scan-big, scan-on}
 use Rattle.checker.proofs.side.read_side.Statement.{statement}
 use Rattle.checker.proofs.side.read_side.Tie as tie

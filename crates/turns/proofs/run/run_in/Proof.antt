@@ -1,5 +1,6 @@
 -- `run::run_in` meets its contract.
-use mathlib.Core.Path.{_∙_}
+use mathlib.Core.Path.{refl, _∙_}
+use native.Mathlib.Omega.{arith}
 use lib.ListN.{take}
 use Rattle.turns.specs.Run.{run}
 use Rattle.turns.specs.Next.{nextW}
@@ -8,8 +9,13 @@ use borrow.Author.Needs.{needs}
 use Rattle.turns.proofs.run.run_in.Statement.{statement}
 use Rattle.turns.proofs.run.run_in.Tie as tie
 
+slice-aggregate-drive : tie.Need-slice-aggregate-drive
+slice-aggregate-drive c = refl
+
 drive-requires : tie.Need-drive-requires
-drive-requires c κs = search needs
+drive-requires c κs =
+    let pre = c .before .before .before .before .before .before .before .before .before .before .pre in
+    (omega (arith, pre .0), (refl, pre .1))
 
 tidy-requires : tie.Need-tidy-requires
 tidy-requires c κs = search needs
@@ -22,8 +28,8 @@ same-length-2 c = search needs
 
 returns : tie.Need-returns
 returns c =
-    let args = c .before .before .before .before .before .before .before .before .before .before .before .before .before .before .before .before .before .before .before .before .before .args in
-    let drove = c .before .before .before .before .before .before .before .before .before .before .before .drive in
+    let args = c .before .before .before .before .before .before .before .before .before .before .before .before .before .before .before .before .before .before .before .before .before .before .before .args in
+    let drove = c .before .before .before .before .before .before .before .before .before .before .before .before .drive in
     let tidied = c .before .before .before .before .tidy in (
       settled-answer (args .room) (run (nextW (args .arities .now) (args .standing .now) (args .own .now) (args .standing-index .now) (args .own-index .now)) (args .room) (args .allowance) 0 (take (args .len) (args .first .now))) (drove .result) (args .first .now) (args .second .now) (drove .last .1 .1 .1 .1 .1 .0) (drove .last .1 .1 .1 .1 .1 .1 .0) (drove .ensures),
       (
@@ -33,4 +39,4 @@ returns c =
     )
 
 pub run-in-spec : {M : Type 1} → statement M
-run-in-spec = tie.close (tie.spec drive-requires tidy-requires same-length same-length-2 returns)
+run-in-spec = tie.close (tie.spec slice-aggregate-drive drive-requires tidy-requires same-length same-length-2 returns)

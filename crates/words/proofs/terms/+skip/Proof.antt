@@ -1,17 +1,19 @@
--- The proof of the cycle of calls {skip}. The measure is the words that remain; the loop's invariant, that the term ends where the parts still to come end.
+-- The proof of the cycle of calls {skip}. The measure is the words that remain; the loop's invariant, that the term ends where the parts
+-- still to come end.
 use mathlib.Core.Path.{_≡_, sym, _∙_}
-use Prim.Native.Nat.{ℕ, _-_, _<_}
+use Prim.Native.Nat.{ℕ, _-_, _≤_, _<_}
 use native.Mathlib.Omega.{arith}
 use borrow.Author.Needs.{needs}
 use lib.ListN.{length, drop}
 use Rattle.words.specs.Terms.{arityOf, past, skipAt}
-use Rattle.words.proofs.Skips.{skip-out, skip-root, past-none, skip-reach, skip-then, skip-short}
+use Rattle.words.proofs.Skips.{succs-from, skip-succs, skip-out, skip-root, past-none, skip-reach, skip-then, skip-short}
 use borrow.Fn.Kinds.{In}
 use borrow.Fn.PlainCycle.{Measures, is, falls, and}
 use Rattle.words.proofs.terms.skip.Reads as skip
 use Rattle.words.proofs.terms.skip.Kinds as skip-kinds
 use Rattle.words.proofs.terms.+skip.Lts-skip as skip-lts
 use Rattle.words.proofs.terms.arity.Reads as arity-reads
+use Rattle.words.proofs.terms.succs_end.Reads as succs-end-reads
 use Rattle.words.proofs.terms.+skip.{statement}
 use Rattle.words.proofs.terms.+skip.Tie.{close}
 
@@ -25,17 +27,20 @@ abbrev skip-below : ℕ → In 2 skip-kinds.ps
 skip-below t = and 2 skip-kinds.ps (falls 2 skip-kinds.ps _<_ μ-skip t) skip.Pre
 
 abbrev skip-Inv-loop : skip-lts.InvT-loop
-skip-Inv-loop arities words at left₀ next₀ left next = (skipAt arities words at ≡ past (arityOf arities) (drop next words) left next) × (at < next)
+skip-Inv-loop arities words at root left₀ next₀ left next = (skipAt arities words at ≡ past (arityOf arities) (drop next words) left next) × ((at ≤ root) × (root < next))
 
 abbrev skip-μ-loop : skip-lts.MeasureT-loop
-skip-μ-loop arities words at left₀ next₀ left next = left
+skip-μ-loop arities words at root left₀ next₀ left next = left
 
 abbrev claims : ℕ → skip-lts.Claims
-claims t = (arity-reads.Asked, arity-reads.Learnt, skip-below t, skip.Post)
+claims t = (succs-end-reads.Asked, succs-end-reads.Learnt, arity-reads.Asked, arity-reads.Learnt, skip-below t, skip.Post)
 
 module _ (t : ℕ) where
+  succs-end-requires : skip-lts.Need-succs-end-requires (claims t) (skip-at t) skip.Post skip-Inv-loop skip-μ-loop
+  succs-end-requires c κs = tt
+
   returns : skip-lts.Need-returns (claims t) (skip-at t) skip.Post skip-Inv-loop skip-μ-loop
-  returns c = sym (skip-out _ _ _ (c .if1 .taken))
+  returns c = sym (skip-succs _ _ _ _ (c .before .succs-end .ensures) ∙ skip-out _ _ _ (c .if1 .taken))
 
   mul-arity : skip-lts.Need-mul-arity (claims t) (skip-at t) skip.Post skip-Inv-loop skip-μ-loop
   mul-arity c = search needs
@@ -50,7 +55,9 @@ module _ (t : ℕ) where
   add-next c = search needs
 
   loop-holds : skip-lts.Need-loop-holds (claims t) (skip-at t) skip.Post skip-Inv-loop skip-μ-loop
-  loop-holds c = (rw (c .arity .ensures) (skip-root _ _ _ (c .before .before .if1 .left)), omega arith)
+  loop-holds c =
+      let e = c .before .before .before .succs-end .ensures in
+      (skip-succs _ _ _ _ e ∙ rw (c .arity .ensures) (skip-root _ _ _ (c .before .before .if1 .left)), (succs-from _ _ _ e, omega arith))
 
   skip-requires : skip-lts.Need-skip-requires (claims t) (skip-at t) skip.Post skip-Inv-loop skip-μ-loop
   skip-requires c κs = search needs
@@ -78,7 +85,7 @@ module _ (t : ℕ) where
       let h = c .before .before .before .before in
       let more : 0 < h .before .loop .left = omega arith in
       let e = sym (c .before .before .before .skip .ensures) ∙ c .before .e .given .1 in
-      (h .before .loop .inv .0 ∙ skip-then _ _ _ _ _ more e, omega (arith, skip-reach _ _ _ _ e))
+      (h .before .loop .inv .0 ∙ skip-then _ _ _ _ _ more e, (h .before .loop .inv .1 .0, omega (arith, skip-reach _ _ _ _ e)))
 
   returns-3 : skip-lts.Need-returns-3 (claims t) (skip-at t) skip.Post skip-Inv-loop skip-μ-loop
   returns-3 c =
@@ -86,4 +93,4 @@ module _ (t : ℕ) where
       sym (rw z at (c .before .loop .inv .0) ∙ past-none _ _ _)
 
 pub +skip-spec : {M : Type 1} → statement M
-+skip-spec = close μ-skip λ t. skip-lts.spec (claims t) (skip-at t) skip.Post skip-Inv-loop skip-μ-loop (returns t) (mul-arity t) (shared-slice-read-arity t) (arity-requires t) (add-next t) (loop-holds t) (skip-requires t) (enum-known-e t) (enum-told t) (returns-2 t) (sub-left t) (loop-less t) (loop-again t) (returns-3 t)
++skip-spec = close μ-skip λ t. skip-lts.spec (claims t) (skip-at t) skip.Post skip-Inv-loop skip-μ-loop (succs-end-requires t) (returns t) (mul-arity t) (shared-slice-read-arity t) (arity-requires t) (add-next t) (loop-holds t) (skip-requires t) (enum-known-e t) (enum-told t) (returns-2 t) (sub-left t) (loop-less t) (loop-again t) (returns-3 t)

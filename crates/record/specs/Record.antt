@@ -3,7 +3,7 @@ use Prim.Native.Nat.{ℕ}
 use mathlib.Core.List.{List}
 use lib.ListN.{drop}
 use Rattle.theory.specs.Bytes.{NextRecord, noneLeft, cutShort, nextIs, nextRecord}
-use Rattle.checker.specs.declared.record.Record.{Record}
+use Rattle.record.specs.declared.Record.{Record}
 
 -- what stands for a record that is not there: it has no bytes
 abbrev pub noRecord : Record

@@ -1,6 +1,6 @@
-// A record of bytes.
+// One record of a program's or a question's bytes: the checker and the reading of terms as words share this one reading.
 ghost use mathlib.Core.Path.{_≡_};
-ghost use Rattle.checker.specs.Record.{noRecord, recordAt};
+ghost use Rattle.record.specs.Record.{noRecord, recordAt};
 ghost use Rattle.theory.specs.Bytes.{bodyLength};
 
 // A record: its kind, its body (zero where the kind has none), and how many bytes it takes: none where the bytes end before it or in it.

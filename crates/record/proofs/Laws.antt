@@ -11,8 +11,8 @@ use lib.Seq.{drop-cons}
 use borrow.Author.Tests.{ne-eqb}
 use Rattle.theory.specs.Syntax.{pick}
 use Rattle.theory.specs.Bytes.{bodyLength, NextRecord, noneLeft, cutShort, nextIs, withBody, nextRecord}
-use Rattle.checker.specs.declared.record.Record.{Record}
-use Rattle.checker.specs.Record.{recordOf, recordAt}
+use Rattle.record.specs.declared.Record.{Record}
+use Rattle.record.specs.Record.{recordOf, recordAt}
 
 -- the kinds with no body
 pub no-body : (k : ℕ) → (k ≡ 1 → ⊥) → (k ≡ 2 → ⊥) → (k ≡ 3 → ⊥) → (k ≡ 0x14 → ⊥) → (k ≡ 0x15 → ⊥) → (k ≡ 0x16 → ⊥) → (k ≡ 0x18 → ⊥) → (k ≡ 0x19 → ⊥) → bodyLength k ≡ 0

@@ -1,8 +1,8 @@
--- `checker::record::body_len` meets its contract.
+-- `record::body_len` meets its contract.
 use mathlib.Core.Path.{sym}
-use Rattle.checker.proofs.record.Laws.{no-body}
-use Rattle.checker.proofs.record.body_len.Statement.{statement}
-use Rattle.checker.proofs.record.body_len.Tie as tie
+use Rattle.record.proofs.Laws.{no-body}
+use Rattle.record.proofs.body_len.Statement.{statement}
+use Rattle.record.proofs.body_len.Tie as tie
 
 returns : tie.Need-returns
 returns c = rw (c .match .keys1)

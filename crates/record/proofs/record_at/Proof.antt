@@ -1,10 +1,10 @@
--- `checker::record::record_at` meets its contract.
+-- `record::record_at` meets its contract.
 use mathlib.Core.Path.{sym, _∙_}
 use native.Mathlib.Omega.{arith}
 use borrow.Author.Needs.{needs}
-use Rattle.checker.proofs.record.Laws.{nothing-left, cut-short, bare, with-one, with-two}
-use Rattle.checker.proofs.record.record_at.Statement.{statement}
-use Rattle.checker.proofs.record.record_at.Tie as tie
+use Rattle.record.proofs.Laws.{nothing-left, cut-short, bare, with-one, with-two}
+use Rattle.record.proofs.record_at.Statement.{statement}
+use Rattle.record.proofs.record_at.Tie as tie
 
 no-record-requires : tie.Need-no-record-requires
 no-record-requires c κs = search needs

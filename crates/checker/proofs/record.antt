@@ -1,2 +1,0 @@
--- The laws of a record of bytes.
-pub mod Laws

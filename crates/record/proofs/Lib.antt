@@ -1,0 +1,2 @@
+-- The laws that callers cite are public.
+pub mod Laws
