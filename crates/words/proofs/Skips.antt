@@ -129,6 +129,19 @@ module _ (ws : List ℕ) (p : ℕ) where
   unfolding succsEnd
   succs-next h e = rw (drop-next ws p h, eqb-true _ _ e)
 
+-- one word more of a run, and none that is another
+pub succs-more : (ws : List ℕ) (at j others : ℕ) → at + j < length ws
+    → (others ≡ 0 → succsEnd (drop at ws) at ≡ succsEnd (drop (at + j) ws) (at + j))
+    → (r : ℕ) → r ≡ pick (eqb (getD ws (at + j) 0) 2) 0 1 → others + r ≡ 0 → succsEnd (drop at ws) at ≡ succsEnd (drop (at + (j + 1)) ws) (at + (j + 1))
+succs-more ws at j others h so r e z =
+    let e2 : getD ws (at + j) 0 ≡ 2 = eq-of-eqb _ 2 (go (eqb (getD ws (at + j) 0) 2) (sym e ∙ (let y : r ≡ 0 = omega arith in y))) in
+    let n : at + j + 1 ≡ at + (j + 1) = omega arith in
+    so (omega arith) ∙ succs-next ws (at + j) h e2 ∙ ap (λ (k : ℕ). succsEnd (drop k ws) k) n
+  where
+    go : (b : Bool) → _≡_ {A = ℕ} (pick b 0 1) 0 → b ≡ true
+    go true e = refl
+    go false e = absurd (omega arith)
+
 module _ (ks ws : List ℕ) where
   -- with n terms still to come, a word pays for one of them and adds its own parts
   pub past-step : (p n : ℕ) → 0 < n → p < length ws → past (arityOf ks) (drop p ws) n p ≡ past (arityOf ks) (drop (p + 1) ws) (n - 1 + arityOf ks (getD ws p 0)) (p + 1)

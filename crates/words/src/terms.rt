@@ -1,6 +1,10 @@
 // Where terms and their parts stand among words. The words of a term are its root's word and then the words of its parts.
 ghost use mathlib.Core.Path.{_≡_};
-ghost use lib.ListN.{drop};
+ghost use mathlib.Core.Bool.{true};
+ghost use Prim.Native.Nat.{_+_, _≤_};
+ghost use lib.Dec.{eqb};
+ghost use lib.ListN.{length, drop};
+ghost use Rattle.theory.specs.Syntax.{pick};
 ghost use Rattle.words.specs.Parts.{TermPart};
 ghost use Rattle.words.specs.Terms.{arityOf, past, skipAt, succsEnd, partAt, termAt};
 
@@ -30,12 +34,51 @@ pub enum Reach {
     Short,
 }
 
+// 0 for succ's word, 1 for any other.
+fn other(w: u16) -> u16
+    ensures { λ r. ⌜ r ≡ pick (eqb w 2) 0 1 ⌝ }
+    ensures small { λ r. ⌜ r ≤ 1 ⌝ }
+{
+    if w == 2 { 0 } else { 1 }
+}
+
+// Whether the 32 words from `at` on are succ's. All of them are looked at: they can be compared side by side.
+fn are_succs(words: &[u16], at: usize) -> bool
+    requires { ⌜ at + 32 ≤ length (now words) ⌝ }
+    ensures { λ r. ⌜ (r ≡ true → succsEnd (drop at (now (words .entry))) at ≡ succsEnd (drop (at + 32) (now (words .entry))) (at + 32)) ⌝ }
+{
+    let mut others = 0u16;
+    let mut j = 0;
+    while j < 32 {
+        others += other(words[at + j]);
+        j += 1;
+    }
+    others == 0
+}
+
+// A place as far as which, from `at` on, there are only succ's: long runs are passed 32 words at a time.
+fn blocks_end(words: &[u16], at: usize) -> usize
+    ensures { λ r. ⌜ succsEnd (drop at (now (words .entry))) at ≡ succsEnd (drop r (now (words .entry))) r ⌝ }
+{
+    let mut i = at;
+    while i < words.len() {
+        if words.len() - i < 32 {
+            return i;
+        }
+        if !are_succs(words, i) {
+            return i;
+        }
+        i += 32;
+    }
+    i
+}
+
 // The place of the first word, from `at` on, that is not succ's. A succ has one part, so a term ends where the one under its succs
 // does; values are such runs.
 fn succs_end(words: &[u16], at: usize) -> usize
     ensures { λ r. ⌜ r ≡ succsEnd (drop at (now (words .entry))) at ⌝ }
 {
-    let mut i = at;
+    let mut i = blocks_end(words, at);
     while i < words.len() {
         if words[i] != 2 {
             return i;

@@ -1,5 +1,5 @@
 -- `terms::succs_end` meets its contract. The loop's invariant: the run ends where it ends from i on.
-use mathlib.Core.Path.{_≡_, refl, sym, _∙_}
+use mathlib.Core.Path.{_≡_, sym, _∙_}
 use Prim.Native.Nat.{_-_}
 use native.Mathlib.Omega.{arith}
 use borrow.Author.Needs.{needs}
@@ -16,7 +16,10 @@ abbrev μ-loop : tie.MeasureT-loop
 μ-loop words at i₀ i = length words - i
 
 loop-holds : tie.Need-loop-holds Inv-loop μ-loop
-loop-holds c = refl
+loop-holds c = c .blocks-end .ensures
+
+blocks-end-requires : tie.Need-blocks-end-requires Inv-loop μ-loop
+blocks-end-requires c κs = tt
 
 mul-if1 : tie.Need-mul-if1 Inv-loop μ-loop
 mul-if1 c = search needs
@@ -40,4 +43,4 @@ returns-2 : tie.Need-returns-2 Inv-loop μ-loop
 returns-2 c = sym (c .before .loop .inv ∙ succs-out _ _ (c .loop-test .left))
 
 pub succs-end-spec : {M : Type 1} → statement M
-succs-end-spec = tie.close (tie.spec Inv-loop μ-loop loop-holds mul-if1 shared-slice-read-if1 returns add-i loop-less loop-again returns-2)
+succs-end-spec = tie.close (tie.spec Inv-loop μ-loop blocks-end-requires loop-holds mul-if1 shared-slice-read-if1 returns add-i loop-less loop-again returns-2)
