@@ -1,5 +1,6 @@
 /* Answers case lines as the program `answers` does, through the hosts' door: reads them from standard input and writes one answer a line.
- * A line has eight fields, one space apart: PROGRAM QUESTION STEPS LEVELS ROOM OWN FIRST SECOND. */
+ * A line has eight fields, one space apart: PROGRAM QUESTION STEPS LEVELS ROOM OWN FIRST SECOND. A line that is none of these is
+ * answered `bad line` or `too long`, and the status is 1 then. */
 #include "puffinest.h"
 
 #include <stdbool.h>
@@ -158,16 +159,39 @@ static void answer(const uint32_t numbers[6]) {
     printf("\n");
 }
 
+/* Answers the line of that length; false where it is no case. */
+static bool answer_line(long len) {
+    uint32_t numbers[6];
+    if (len > LINE) {
+        printf("too long\n");
+        return false;
+    }
+    if (!read_case((size_t)len, numbers)) {
+        printf("bad line\n");
+        return false;
+    }
+    answer(numbers);
+    return true;
+}
+
+/* Status 1 where a line is no case, or the input or the output fails. */
 int main(void) {
+    unsigned long lines = 0, no_case = 0;
     long len;
     while ((len = read_line()) >= 0) {
-        uint32_t numbers[6];
-        if (len > LINE)
-            printf("too long\n");
-        else if (!read_case((size_t)len, numbers))
-            printf("bad line\n");
-        else
-            answer(numbers);
+        lines++;
+        if (!answer_line(len))
+            no_case++;
     }
-    return ferror(stdin) || fflush(stdout) != 0;
+    if (ferror(stdin)) {
+        fprintf(stderr, "compare: standard input could not be read\n");
+        return 1;
+    }
+    if (fflush(stdout) != 0 || ferror(stdout)) {
+        fprintf(stderr, "compare: the answers could not be written\n");
+        return 1;
+    }
+    if (no_case > 0)
+        fprintf(stderr, "compare: no case: %lu of %lu lines\n", no_case, lines);
+    return no_case > 0;
 }

@@ -1,11 +1,12 @@
 //! The generator of random cases: sound programs and questions of many shapes,
 //! damaged ones, loose records, plain random bytes, and cases at and past every
-//! ceiling and allowance. The same seed gives the same cases.
+//! ceiling and allowance; and of lines, of which some are no case. The same seed
+//! gives the same lines.
 
 use crate::checker::*;
 use crate::evaluator;
 use crate::language::*;
-use crate::lines::Case;
+use crate::lines::{Case, MAX_LINE};
 use crate::rewriter::{self, Rules};
 use crate::translator::{own_list, term_words};
 
@@ -65,6 +66,17 @@ impl Random {
         parts[0] += spare;
         self.shuffle(&mut parts);
         parts
+    }
+}
+
+/// One random line without its end: mostly a case as it is written here, now
+/// and then one that is spelled otherwise, or no case.
+pub fn line(random: &mut Random) -> Vec<u8> {
+    let line = case(random).to_string().into_bytes();
+    match random.below(100) {
+        0..=7 => misspelled(random, line),
+        8 => around_longest(random, line),
+        _ => line,
     }
 }
 
@@ -304,7 +316,7 @@ fn rule(
     if random.chance(60) {
         random.shuffle(&mut numbers);
     }
-    if random.below(400) == 0 {
+    if random.below(150) == 0 {
         numbers[1] = numbers[0]; // a variable twice on the left
     }
     let mut scope = Scope {
@@ -586,6 +598,14 @@ fn damage(random: &mut Random, bytes: &mut Vec<u8>) {
             return;
         }
     }
+    if random.chance(12) {
+        // A variable in a constant's place, or what looks like one.
+        let constant = |i: &usize| [ZERO, TRUE, FALSE].contains(&bytes[*i]);
+        if let Some(i) = (at..bytes.len()).find(constant) {
+            bytes.splice(i..=i, [VARIABLE, random.below(8) as u8]);
+            return;
+        }
+    }
     match random.below(8) {
         0 | 1 => bytes[at] = byte,
         2 => bytes[at] = bytes[at].wrapping_add(random.pick(&[1, 255])),
@@ -660,11 +680,73 @@ fn random_bytes(random: &mut Random) -> (Vec<u8>, Vec<u8>) {
     (program, question)
 }
 
+// ------------------------------------------------------------ misspelled lines
+
+/// Numbers that are spelled otherwise than here, or larger than they need be.
+const NUMBERS: [&str; 8] = [
+    "0000",
+    "00000000000000000000000001000",
+    "4294967296",
+    "4294967297",
+    "4294967300",
+    "18446744073709551616",
+    "18446744073709551620",
+    "99999999999999999999999999999999999999999",
+];
+
+/// Fields that are good for bytes, or for nothing.
+const FIELDS: [&str; 16] = [
+    "-", "10", "1f", "", "--", "-1", "+1", "1.", "1F", "0x10", "a", "g0", "0:", "1/", "a`",
+    "\u{e9}",
+];
+
+/// A line with a field, a digit, a sign or a few bytes that do not belong there.
+fn misspelled(random: &mut Random, line: Vec<u8>) -> Vec<u8> {
+    let mut fields: Vec<Vec<u8>> = line.split(|c| *c == b' ').map(<[u8]>::to_vec).collect();
+    let at = random.below(fields.len());
+    let last = fields.len() - 1;
+    match random.below(13) {
+        0 | 1 => fields[random.between(2, last)] = random.pick(&NUMBERS).into(),
+        2 | 3 => fields[at] = random.pick(&FIELDS).into(),
+        4 => fields.insert(at, random.pick(&FIELDS).into()),
+        5 => fields.push(random.pick(&FIELDS).into()),
+        6 => drop(fields.remove(at)),
+        7 => fields.truncate(at),
+        8 => fields[at % 2].extend(random.pick(&[b"0A", b"F0", b"aB"])),
+        9 => drop(fields[at % 2].pop()),
+        10 => fields[last].push(random.pick(b"\r\t\0 ,;\xff")),
+        11 => {
+            let place = random.below(fields[at].len() + 1);
+            fields[at].insert(place, not_newline(random));
+        }
+        _ => fields = vec![(0..random.below(60)).map(|_| not_newline(random)).collect()],
+    }
+    fields.join(&random.pick(b"           \t"))
+}
+
+fn not_newline(random: &mut Random) -> u8 {
+    match random.byte() {
+        b'\n' => b'\r',
+        byte => byte,
+    }
+}
+
+/// A line of about the longest length: zeros before one of its numbers, or
+/// before a byte string, which they damage.
+fn around_longest(random: &mut Random, line: Vec<u8>) -> Vec<u8> {
+    let length = MAX_LINE - 1 + random.pick(&[0, 1, 1, 2, 2, 3, 6_000]);
+    let starts = |i: &usize| *i == 0 || line[*i - 1] == b' ';
+    let starts: Vec<usize> = (0..line.len()).filter(starts).collect();
+    let at = random.pick(&starts);
+    let zeros = vec![b'0'; length.saturating_sub(line.len())];
+    [&line[..at], &zeros, &line[at..]].concat()
+}
+
 // --------------------------------------------------- at and past the ceilings
 
 fn ceiling(random: &mut Random) -> (Vec<u8>, Vec<u8>) {
     let past = random.below(2);
-    match random.below(13) {
+    match random.below(14) {
         0 => program_bytes_ceiling(random),
         1 => exceptions_ceiling(random, past),
         2 => functions_ceiling(random, past),
@@ -699,6 +781,7 @@ fn ceiling(random: &mut Random) -> (Vec<u8>, Vec<u8>) {
             };
             (program, vec![ZERO])
         }
+        12 => growing(random),
         _ => {
             // A question that never comes to its end.
             let shape = small_shape(random);
@@ -907,6 +990,26 @@ fn right_ceiling(random: &mut Random, past: usize) -> (Vec<u8>, Vec<u8>) {
         question.extend([SUCC, SUCC, ZERO]);
     }
     (program, question)
+}
+
+/// A function that calls itself ever deeper: terms as large as any room, with
+/// a path as long.
+fn growing(random: &mut Random) -> (Vec<u8>, Vec<u8>) {
+    let (root, rest, words): (&[u8], &[u8], usize) = random.pick(&[
+        (&[SUCC], &[], 1),
+        (&[BUILTIN, 2], &[], 1),
+        (&[BUILTIN, 0], &[ZERO], 2),
+        (&[IF], &[TRUE, FALSE], 3),
+        (&[HANDLE, 0], &[ZERO], 3),
+    ]);
+    let most = (MAX_RIGHT_WORDS - 1) / words;
+    let count = random.between(most / 2, most);
+    let mut program = vec![EXCEPTION, 0, FUNCTION, 0, 0, RULE, 0];
+    program.extend(root.repeat(count));
+    program.extend([CALL, 0]);
+    program.extend(rest.repeat(count));
+    program.push(END);
+    (program, vec![CALL, 0])
 }
 
 /// Everything declared that can be: the longest own lists.

@@ -6,6 +6,7 @@
 
 pub mod calls;
 pub mod checker;
+pub mod compare;
 pub mod evaluator;
 pub mod generator;
 pub mod language;

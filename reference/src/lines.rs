@@ -5,6 +5,7 @@ use crate::calls;
 use crate::checker::{About, Refusal};
 use crate::language::*;
 use std::fmt;
+use std::io::{self, BufRead, Read, Write};
 
 /// The longest case line that is answered, in bytes without the line's end.
 pub const MAX_LINE: usize = 60_000;
@@ -12,6 +13,10 @@ pub const MAX_LINE: usize = 60_000;
 /// Lent slices are never made longer than this: no own list and no room comes
 /// near it, so no answer depends on the rest.
 const LONGEST_SLICE: u64 = 65_536;
+
+/// What a line that is no case is answered.
+pub const BAD_LINE: &str = "bad line";
+pub const TOO_LONG: &str = "too long";
 
 /// What lent words hold before a call; no symbol, so that unwritten words show.
 const UNWRITTEN: u16 = 0xffff;
@@ -65,14 +70,50 @@ pub fn parse_case(line: &[u8]) -> Option<Case> {
     })
 }
 
+/// Lines of input: all, and those that are no case.
+#[derive(Clone, Copy, Debug, Default, PartialEq, Eq)]
+pub struct Lines {
+    pub all: u64,
+    pub no_case: u64,
+}
+
+/// Answers every line of the input, one line each. A last line without its
+/// newline is a line too.
+pub fn answer_all(mut input: impl BufRead, mut output: impl Write) -> io::Result<Lines> {
+    let mut lines = Lines::default();
+    let mut line = Vec::new();
+    while read_line(&mut input, &mut line)? {
+        let answer = answer_line(&line);
+        lines.all += 1;
+        lines.no_case += u64::from(answer == BAD_LINE || answer == TOO_LONG);
+        writeln!(output, "{answer}")?;
+    }
+    output.flush()?;
+    Ok(lines)
+}
+
+/// Reads a line without its end, if there is one more. Of a line that is too
+/// long one byte too many is kept, and the rest is passed over.
+fn read_line(input: &mut impl BufRead, line: &mut Vec<u8>) -> io::Result<bool> {
+    line.clear();
+    let most = MAX_LINE as u64 + 1;
+    let found = input.by_ref().take(most).read_until(b'\n', line)? > 0;
+    if line.last() == Some(&b'\n') {
+        line.pop();
+    } else if line.len() > MAX_LINE {
+        input.skip_until(b'\n')?;
+    }
+    Ok(found)
+}
+
 /// The answer to one line of input (without the line's end).
 pub fn answer_line(line: &[u8]) -> String {
     if line.len() > MAX_LINE {
-        return "too long".to_string();
+        return TOO_LONG.to_string();
     }
     match parse_case(line) {
         Some(case) => answer_case(&case),
-        None => "bad line".to_string(),
+        None => BAD_LINE.to_string(),
     }
 }
 
@@ -205,6 +246,7 @@ pub fn to_hex(bytes: &[u8]) -> String {
     bytes.iter().map(|byte| format!("{byte:02x}")).collect()
 }
 
+/// Bytes in lower-case digits, two to a byte; "-" for none.
 pub fn from_hex(text: &[u8]) -> Option<Vec<u8>> {
     if text == b"-" {
         return Some(Vec::new());
@@ -212,15 +254,22 @@ pub fn from_hex(text: &[u8]) -> Option<Vec<u8>> {
     if text.is_empty() || text.len() % 2 == 1 {
         return None;
     }
-    let digit = |c: u8| char::from(c).to_digit(16).map(|digit| digit as u8);
+    let digit = |c: u8| match c {
+        b'0'..=b'9' => Some(c - b'0'),
+        b'a'..=b'f' => Some(c - b'a' + 10),
+        _ => None,
+    };
     text.chunks(2)
         .map(|pair| Some(digit(pair[0])? * 16 + digit(pair[1])?))
         .collect()
 }
 
+/// A decimal number; one that is too large is the largest, which is out of any
+/// allowance's range and more than any slice needs.
 fn from_decimal(text: &[u8]) -> Option<u64> {
     if text.is_empty() || !text.iter().all(u8::is_ascii_digit) {
         return None;
     }
-    std::str::from_utf8(text).ok()?.parse().ok()
+    let grown = |value: u64, c: &u8| value.saturating_mul(10).saturating_add(u64::from(c - b'0'));
+    Some(text.iter().fold(0, grown))
 }

@@ -1,12 +1,16 @@
 //! The command: `answers` answers case lines, `generate SEED N` prints random
-//! case lines, `program` is document 01's program.
+//! lines, `compare CASES EXPECTED FOUND` holds answers against ours, `program`
+//! is document 01's program. Status 1: a line is no case, or answers differ;
+//! status 2: bad usage, or the input or the output fails.
 
+use reference::compare;
 use reference::generator::{self, Random};
 use reference::lines;
-use std::io::{self, BufRead, BufWriter, Read, Write};
+use std::io::{self, BufWriter, Read, Write};
 use std::process::ExitCode;
 
-const USAGE: &str = "usage: reference answers | reference generate SEED N | reference program";
+const USAGE: &str = "usage: reference answers | reference generate SEED N | \
+                     reference compare CASES EXPECTED FOUND | reference program";
 
 fn main() -> ExitCode {
     let arguments: Vec<String> = std::env::args().skip(1).collect();
@@ -18,15 +22,17 @@ fn main() -> ExitCode {
             (Ok(seed), Ok(count)) => generate(seed, count),
             _ => return usage(),
         },
+        ["compare", cases, expected, found] => compare::files(cases, expected, found),
         _ => return usage(),
     };
     match done {
-        Ok(()) => ExitCode::SUCCESS,
+        Ok(true) => ExitCode::SUCCESS,
+        Ok(false) => ExitCode::FAILURE,
         // The reader of our output has gone: nothing more to do.
         Err(error) if error.kind() == io::ErrorKind::BrokenPipe => ExitCode::SUCCESS,
         Err(error) => {
             eprintln!("reference: {error}");
-            ExitCode::FAILURE
+            ExitCode::from(2)
         }
     }
 }
@@ -36,34 +42,35 @@ fn usage() -> ExitCode {
     ExitCode::from(2)
 }
 
-fn answers() -> io::Result<()> {
-    let mut input = io::stdin().lock();
-    let mut output = BufWriter::new(io::stdout().lock());
-    let mut line = Vec::new();
-    while input.read_until(b'\n', &mut line)? > 0 {
-        if line.last() == Some(&b'\n') {
-            line.pop();
-        }
-        writeln!(output, "{}", lines::answer_line(&line))?;
-        line.clear();
+/// Whether every line was a case.
+fn answers() -> io::Result<bool> {
+    let output = BufWriter::new(io::stdout().lock());
+    let lines = lines::answer_all(io::stdin().lock(), output)?;
+    if lines.no_case > 0 {
+        eprintln!(
+            "reference: no case: {} of {} lines",
+            lines.no_case, lines.all
+        );
     }
-    output.flush()
+    Ok(lines.no_case == 0)
 }
 
-fn generate(seed: u64, count: u64) -> io::Result<()> {
+fn generate(seed: u64, count: u64) -> io::Result<bool> {
     let mut output = BufWriter::new(io::stdout().lock());
     let mut random = Random::new(seed);
     for _ in 0..count {
-        writeln!(output, "{}", generator::case(&mut random))?;
+        output.write_all(&generator::line(&mut random))?;
+        output.write_all(b"\n")?;
     }
-    output.flush()
+    output.flush()?;
+    Ok(true)
 }
 
-fn program() -> io::Result<()> {
+fn program() -> io::Result<bool> {
     let mut input = Vec::new();
     // One byte past the most that is looked at is enough.
     io::stdin().lock().take(9_219).read_to_end(&mut input)?;
-    io::stdout()
-        .lock()
-        .write_all(lines::program_output(&input).as_bytes())
+    let output = lines::program_output(&input);
+    io::stdout().lock().write_all(output.as_bytes())?;
+    Ok(true)
 }

@@ -5,7 +5,7 @@ use reference::checker::{check_program, check_question};
 use reference::evaluator;
 use reference::generator::{self, Random};
 use reference::language::*;
-use reference::lines::{answer_line, parse_case};
+use reference::lines::{answer_all, answer_line, parse_case};
 use reference::rewriter::{self, Rules};
 use reference::translator::{own_list, term_words};
 
@@ -134,7 +134,7 @@ fn more_room_changes_no_term() {
 
 /// Reading the case back gives the case, and the same seed the same cases.
 #[test]
-fn generated_lines() {
+fn generated_cases() {
     let (mut one, mut two) = (Random::new(5), Random::new(5));
     for _ in 0..2_000 {
         let case = generator::case(&mut one);
@@ -144,4 +144,21 @@ fn generated_lines() {
         let answer = answer_line(line.as_bytes());
         assert!(answer.starts_with("ok ") || answer.starts_with("refused "));
     }
+}
+
+/// Lines that are no case are among the generated ones, and each is one line.
+#[test]
+fn generated_lines_that_are_no_case() {
+    let (mut one, mut two) = (Random::new(6), Random::new(6));
+    let mut text = Vec::new();
+    for _ in 0..1_000 {
+        let line = generator::line(&mut one);
+        assert_eq!(line, generator::line(&mut two));
+        assert!(!line.contains(&b'\n'));
+        text.extend(line);
+        text.push(b'\n');
+    }
+    let lines = answer_all(&text[..], std::io::sink()).unwrap();
+    assert_eq!(lines.all, 1_000);
+    assert!((30..130).contains(&lines.no_case), "{}", lines.no_case);
 }
