@@ -7,7 +7,6 @@ use Prim.Native.Nat.{ℕ, zero, suc, _+_, _-_, _≤_, _<_}
 use lib.Dec.{eqb}
 use lib.ListN.{length, getD, drop, drop-of-length-le}
 use Rattle.theory.specs.Syntax.{pick}
-use Rattle.theory.specs.Words.{isVar}
 use Rattle.theory.proofs.Tests.{eqb-true, eqb-false}
 use Rattle.words.proofs.Skips.{drop-next}
 use Rattle.rewriter.specs.Read.{exnW, firedW, rootW, readW}
@@ -15,13 +14,9 @@ use Rattle.rewriter.specs.declared.ending.Base.the-variants as b
 use Rattle.rewriter.specs.declared.ending.Said.the-variants.{Value, Raised, Stuck}
 
 -- ---- the code's cases
-pub exn-var : (w : ℕ) → isVar w ≡ true → 0 ≡ exnW w
+pub exn-word : (w x : ℕ) → x ≡ w - 32 → x ≡ exnW w
 unfolding exnW
-exn-var w e = sym (ap (λ (b : Bool). pick b 0 (w - 32)) e)
-
-pub exn-word : (w x : ℕ) → isVar w ≡ false → x ≡ w - 32 → x ≡ exnW w
-unfolding exnW
-exn-word w x e q = q ∙ sym (ap (λ (b : Bool). pick b 0 (w - 32)) e)
+exn-word w x q = q
 
 module _ (k x : ℕ) where
   pub root-1 : Value k b.Zero ≡ rootW 1 k x

@@ -1,7 +1,9 @@
 -- THE REWRITER FROM THE BYTES: with the lists that a read program comes to, its answer is the theory's, and the first buffer holds the
--- theory's last term. So the cases of the code that no accepted program reaches show nothing of their own: a variable's word behind fire
--- (`exn_of`) and a right side's variable that no part is bound to (`shown_by`) have the theory's values; a rule that is not whole, and a
--- term that ends before its left side does (`apply_rule`), would end a run where the theory's goes on.
+-- theory's last term. The theory gives a value to two things that no accepted program comes to, and the code has no case for them: a right
+-- side's variable that the left has not (its rules are proper, `accepted-rules-proper`, so each variable has its part, `filled-is`), and a
+-- variable behind fire (none stands there in any term of a run, `program-fires`, `no-variable-fired`). The cases that the code still has and
+-- no accepted program reaches show nothing of their own: a word below 32 behind fire has the theory's value (`exn_of`); a rule that is not
+-- whole, and a term that ends before its left side does (`apply_rule`), would end a run where the theory's goes on.
 use mathlib.Core.Path.{_≡_, refl, sym, ap, _∙_}
 use mathlib.Core.List.{List, []}
 use Prim.Native.Nat.{ℕ}
@@ -15,6 +17,7 @@ use Rattle.theory.specs.Turns.{rewriter}
 use Rattle.theory.specs.Answers.{lastWords}
 use Rattle.theory.specs.Bytes.{good, Book, readProgram, readQuestion, programOf, funsOf}
 use Rattle.theory.proofs.Accepted.{program-on-bytes, question-on-bytes}
+use Rattle.theory.proofs.AcceptedProper.{accepted-rules-proper}
 use Rattle.rules.specs.Index.{indexOf}
 use Rattle.rules.specs.Program.{Sound, Lent}
 use Rattle.rewriter.specs.Read.{answerW, runOn}
@@ -41,5 +44,5 @@ module _ (p q : List ℕ) (s : Book) (t : Term) (ep : readProgram p ≡ good s) 
         → (r ≡ answerOf (rewriter (programOf s) room allowance t)) × (first′ ≡ over (padded room (lastWords (programOf s) room allowance t)) first)
     rewriter-on-bytes room allowance first first′ r er ef =
         let h = question-on-bytes p q s t ep eq in
-        let theirs = run-is-theirs ks st own si oi (programOf s) sound lent standing-index-is own-index-is t (h .0) (h .1) ws question-is room allowance in
+        let theirs = run-is-theirs ks st own si oi (programOf s) sound (accepted-rules-proper p s ep) lent standing-index-is own-index-is t (h .0) (h .1) ws question-is room allowance in
         (er ∙ theirs .0, ef ∙ ap (λ (l : List ℕ). over (padded room l) first) (theirs .1))

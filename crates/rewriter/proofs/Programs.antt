@@ -1,4 +1,4 @@
--- THE REWRITER on the lists of a checked program: its answer and its last term are the theory's.
+-- THE REWRITER on the lists of a checked program whose rules are proper: its answer and its last term are the theory's.
 use mathlib.Core.Path.{_≡_, sym, ap, subst, subst₂, _∙_}
 use mathlib.Core.Option.{none}
 use mathlib.Core.List.{List, _++_}
@@ -10,7 +10,9 @@ use Rattle.theory.specs.Words.{words, Shaped}
 use Rattle.theory.specs.Translation.{tree, standing, ownList, rules}
 use Rattle.theory.specs.Turns.{rewriter}
 use Rattle.theory.specs.Answers.{lastWords}
+use Rattle.theory.specs.Proper.{ProperRules}
 use Rattle.theory.proofs.Shape.{tree-shaped}
+use Rattle.theory.proofs.Exceptions.{question-fires, program-fires}
 use Rattle.words.specs.Terms.{arityOf}
 use Rattle.rules.specs.Index.{indexOf}
 use Rattle.rules.specs.Finding.{fittingOf, isFound, ruleOf}
@@ -23,7 +25,7 @@ use Rattle.rewriter.specs.Read.{answerW, runOn}
 use Rattle.rewriter.specs.Meaning.{answerOf}
 use Rattle.rewriter.proofs.Answers.{from-is}
 
-module _ (ks st own si oi : List ℕ) (P : Program) (sound : Sound P) (lent : Lent P ks st own) (es : si ≡ indexOf st) (eo : oi ≡ indexOf own) where
+module _ (ks st own si oi : List ℕ) (P : Program) (sound : Sound P) (proper : ProperRules (rules P)) (lent : Lent P ks st own) (es : si ≡ indexOf st) (eo : oi ≡ indexOf own) where
   -- the search finds the first of the program's rules that fits
   found : (t : Tree) → Shaped (arityOf ks) t → (rest : List ℕ) → let f = fittingOf ks st own si oi (words t ++ rest) in Picked ks t (rules P) (ruleOf st own f) (isFound f)
   found t h rest =
@@ -40,5 +42,5 @@ module _ (ks st own si oi : List ℕ) (P : Program) (sound : Sound P) (lent : Le
     pub run-is-theirs : (answerW (runOn ks st own si oi ws room n) ≡ answerOf (rewriter P room n q)) × (runOn ks st own si oi ws room n .term ≡ lastWords P room n q)
     unfolding runOn rewriter
     run-is-theirs =
-        let theirs = from-is ks st own si oi (rules P) (all-shaped ks st own P sound lent) found vars room n (tree q) shaped in
+        let theirs = from-is ks st own si oi (rules P) proper (all-shaped ks st own P sound lent) found vars (program-fires P (sound .few)) room n (tree q) shaped (question-fires q) in
         (ap (λ (l : List ℕ). answerW (runOn ks st own si oi l room n)) stands ∙ theirs .0, ap (λ (l : List ℕ). runOn ks st own si oi l room n .term) stands ∙ theirs .1)

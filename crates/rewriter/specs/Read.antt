@@ -4,7 +4,6 @@ use mathlib.Core.List.{List, [], _∷_}
 use lib.Dec.{eqb}
 use lib.ListN.{getD}
 use Rattle.theory.specs.Syntax.{pick}
-use Rattle.theory.specs.Words.{isVar}
 use Rattle.turns.specs.Next.{nextW}
 use Rattle.turns.specs.Run.{Last, runFrom}
 use Rattle.turns.specs.declared.run.Ending.{Ending}
@@ -17,7 +16,7 @@ use Rattle.rewriter.specs.declared.Answer.{Answer}
 
 -- the exception whose word is w
 unfoldable pub exnW : ℕ → ℕ
-exnW w = pick (isVar w) 0 (w - 32)
+exnW w = w - 32
 
 -- fire under k succ signs
 abbrev pub firedW : ℕ → ℕ → Said

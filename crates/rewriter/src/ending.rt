@@ -1,6 +1,5 @@
 // The ending that a term's words show: so many succ over a constant, fire of an exception, or else stuck.
 use rules::index::word_at;
-use rules::matching::is_var;
 use turns::run::Ending;
 ghost use mathlib.Core.Path.{_≡_};
 ghost use Rattle.rewriter.specs.Read.{exnW, rootW, readW, saidW};
@@ -26,14 +25,11 @@ pub enum Said {
     Big,
 }
 
-// The exception whose word is w. Behind fire a checked program's terms have an exception's word; for a variable's the answer is the
-// theory's, 0 (`exceptionOf`).
+// The exception whose word is w: the exceptions' words are 32 and on; below them it is 0, as in the theory (`exceptionOf`). A variable's
+// word, for which the theory has another answer, stands behind fire in no term of an accepted program's run.
 fn exn_of(w: u16) -> u16
     ensures { λ r. ⌜ r ≡ exnW w ⌝ }
 {
-    if is_var(w) {
-        return 0;
-    }
     if w < 32 {
         return 0;
     }

@@ -8,6 +8,7 @@ pub mod Stored
 pub mod Scan
 pub mod Indexed
 pub mod Ranges
+pub mod Ordered
 pub mod Match
 pub mod Found
 pub mod Standing

@@ -1,8 +1,8 @@
 -- MATCHING ON WORDS IS MATCHING ON TREES: a left side fits where the theory matches it, and its variables take the words of what the
--- substitution gives them.
+-- substitution gives them. So a right side that has only variables of the left is filled in as the theory fills it.
 use mathlib.Core.Path.{_≡_, refl, sym, ap, ap₂, subst, subst₂, _∙_}
-use mathlib.Core.Logic.{_≢_}
-use mathlib.Core.Bool.{Bool, true, false}
+use mathlib.Core.Logic.{_≢_, ⊎-elim}
+use mathlib.Core.Bool.{Bool, true, false, false≢true}
 use mathlib.Core.Option.{Option, none, some}
 use mathlib.Core.List.{List, [], _∷_, _++_, append-assoc, append-nil}
 use Prim.Native.Nat.{ℕ, zero, suc, _+_, _-_, _≤_, _<_}
@@ -11,20 +11,22 @@ use native.Mathlib.Omega.{arith}
 use lib.Dec.{eqb}
 use lib.ListN.{length, getD, take, drop, set, replicate, length-set, length-drop}
 use lib.Seq.{getD-set-same, getD-set-other, take-append-seam, drop-append-seam, drop-drop}
-use borrow.Author.Tests.{lt-ltb}
-use Rattle.theory.specs.Syntax.{pick, andThen}
+use Rattle.theory.specs.Syntax.{pick, andThen, elem}
 use Rattle.theory.specs.Tree.{Tree, Trees, var, node, [·], _▹_, Subst, bindTree, noSubst, inst, match, matches, size, sizes, len}
 use Rattle.theory.specs.Words.{words, allWords, isVar, Shaped, Shapeds}
-use Rattle.theory.proofs.Tests.{eq-of-eqb, ne-of-eqb}
+use Rattle.theory.specs.Buffers.{part}
+use Rattle.theory.specs.Proper.{AllIn, treeVars, treesVars}
+use Rattle.theory.proofs.Members.{or-true, elem-append, elem-one, all-in}
+use Rattle.theory.proofs.Tests.{eqb-true, eq-of-eqb, ne-of-eqb}
 use Rattle.theory.proofs.Readability.{isVar-word, length-words}
 use Rattle.theory.proofs.Filling.{fill, fill-words}
 use Rattle.words.specs.declared.terms.Reach.{Reach}
 use Rattle.words.specs.declared.terms.Reach.the-variants.{End, Short}
 use Rattle.words.specs.Terms.{arityOf}
 use Rattle.words.proofs.Trees.{skip-tree}
-use Rattle.rules.specs.Matching.{takes, reached, fits, noted, binds, wordsFrom, boundTo}
+use Rattle.rules.specs.Matching.{takes, reached, fits, noted, binds, boundTo}
 use Rattle.rules.specs.declared.matching.Bound.{Bound}
-use Rattle.rules.proofs.Takes.{drop-next, isVar-slot, takes-var, takes-same, takes-other}
+use Rattle.rules.proofs.Takes.{drop-next, takes-var, takes-same, takes-other}
 
 -- ---- words at a place
 pub past-it : (ws xs ys : List ℕ) (p : ℕ) → drop p ws ≡ xs ++ ys → drop (p + length xs) ws ≡ ys
@@ -67,37 +69,53 @@ matched (some σ) = true
 module _ (ks ss : List ℕ) where
   -- the words that the slots give a variable
   abbrev slot : List ℕ → List ℕ → ℕ → List ℕ
-  slot S E x = wordsFrom ss (getD S x 0) (getD E x 0)
+  slot S E x = part (getD S x 0) (getD E x 0) ss
 
-  -- the slots hold a substitution
+  -- a slot that is filled
+  abbrev Full : List ℕ → List ℕ → ℕ → Type 0
+  Full S E x = getD S x 0 < getD E x 0
+
+  -- the slots that are filled hold a substitution
   pub record Holds (S E : List ℕ) (σ : Subst) : Type 0 where
     pub starts8 : length S ≡ 8
     pub ends8 : length E ≡ 8
-    pub slots : (x : ℕ) → x < 8 → slot S E x ≡ words (σ x)
+    pub slots : (x : ℕ) → x < 8 → Full S E x → slot S E x ≡ words (σ x)
 
   start-holds : Holds (replicate 8 0) (replicate 8 0) noSubst
-  start-holds = record { starts8 = refl; ends8 = refl; slots = λ x h. ap₂ (λ (a e : ℕ). wordsFrom ss a e) (zeros x) (zeros x) }
+  start-holds = record { starts8 = refl; ends8 = refl; slots = λ x h l. absurd (omega (arith, zeros x, l)) }
 
-  -- what is left to do after a part of the left side
-  pub record After (qs ps : List ℕ) (j k : ℕ) (S E : List ℕ) (τ : Subst) : Type 0 where
+  -- what is left to do after a part of the left side, whose variables are vs: their slots are filled, and those that were stay so
+  pub record After (qs ps : List ℕ) (j k : ℕ) (S E : List ℕ) (τ : Subst) (vs : List ℕ) : Type 0 where
     pub starts : List ℕ
     pub ends : List ℕ
     pub fit : fits ks ss qs j ≡ fits ks ss ps k
     pub bind : binds ks ss qs j S E ≡ binds ks ss ps k starts ends
     pub holds : Holds starts ends τ
+    pub kept : (x : ℕ) → Full S E x → Full starts ends x
+    pub filled : (x : ℕ) → elem x vs ≡ true → Full starts ends x
 
-  abbrev Outcome : List ℕ → List ℕ → ℕ → ℕ → List ℕ → List ℕ → Option Subst → Type 0
-  Outcome qs ps j k S E none = fits ks ss qs j ≡ false
-  Outcome qs ps j k S E (some τ) = After qs ps j k S E τ
+  abbrev Outcome : List ℕ → List ℕ → ℕ → ℕ → List ℕ → List ℕ → Option Subst → List ℕ → Type 0
+  Outcome qs ps j k S E none vs = fits ks ss qs j ≡ false
+  Outcome qs ps j k S E (some τ) vs = After qs ps j k S E τ vs
 
-  join : (qs ms ps : List ℕ) (j k l : ℕ) (S E : List ℕ) (τ : Subst) (a : After qs ms j k S E τ) (o : Option Subst) → Outcome ms ps k l (a .starts) (a .ends) o → Outcome qs ps j l S E o
-  join qs ms ps j k l S E τ a none h = a .fit ∙ h
-  join qs ms ps j k l S E τ a (some υ) h = record { starts = h .starts; ends = h .ends; fit = a .fit ∙ h .fit; bind = a .bind ∙ h .bind; holds = h .holds }
+  join : (qs ms ps : List ℕ) (j k l : ℕ) (S E : List ℕ) (τ : Subst) (vs us : List ℕ) (a : After qs ms j k S E τ vs) (o : Option Subst) → Outcome ms ps k l (a .starts) (a .ends) o us
+      → Outcome qs ps j l S E o (vs ++ us)
+  join qs ms ps j k l S E τ vs us a none h = a .fit ∙ h
+  join qs ms ps j k l S E τ vs us a (some υ) h =
+      record {
+        starts = h .starts;
+        ends = h .ends;
+        fit = a .fit ∙ h .fit;
+        bind = a .bind ∙ h .bind;
+        holds = h .holds;
+        kept = λ x f. h .kept x (a .kept x f);
+        filled = λ x e. ⊎-elim (λ v. h .kept x (a .filled x v)) (λ u. h .filled x u) (or-true (elem x vs) (elem x us) (sym (elem-append x vs us) ∙ e));
+      }
 
-  chain : (qs ms ps : List ℕ) (j k l : ℕ) (S E : List ℕ) (o : Option Subst) (f : Subst → Option Subst) → Outcome qs ms j k S E o
-      → ((τ : Subst) (S′ E′ : List ℕ) → Holds S′ E′ τ → Outcome ms ps k l S′ E′ (f τ)) → Outcome qs ps j l S E (andThen o f)
-  chain qs ms ps j k l S E none f h g = h
-  chain qs ms ps j k l S E (some τ) f h g = join qs ms ps j k l S E τ h (f τ) (g τ (h .starts) (h .ends) (h .holds))
+  chain : (qs ms ps : List ℕ) (j k l : ℕ) (S E : List ℕ) (vs us : List ℕ) (o : Option Subst) (f : Subst → Option Subst) → Outcome qs ms j k S E o vs
+      → ((τ : Subst) (S′ E′ : List ℕ) → Holds S′ E′ τ → Outcome ms ps k l S′ E′ (f τ) us) → Outcome qs ps j l S E (andThen o f) (vs ++ us)
+  chain qs ms ps j k l S E vs us none f h g = h
+  chain qs ms ps j k l S E vs us (some τ) f h g = join qs ms ps j k l S E τ vs us h (f τ) (g τ (h .starts) (h .ends) (h .holds))
 
   -- a word of the left side that takes something, or nothing
   module _ (p : ℕ) (ps : List ℕ) (j : ℕ) where
@@ -125,32 +143,56 @@ module _ (ks ss : List ℕ) where
 
   -- a variable takes a tree
   module _ (x : ℕ) (hx : x < 8) (t : Tree) (ht : Shaped (arityOf ks) t) (j : ℕ) (rest : List ℕ) (stands : drop j ss ≡ words t ++ rest) where
-    the-part : wordsFrom ss j (j + size t) ≡ words t
+    the-part : part j (j + size t) ss ≡ words t
     the-part =
         let m : j + size t - j ≡ size t = omega arith in
-        ap (λ (b : Bool). pick b (take (j + size t - j) (drop j ss)) (1 ∷ [])) (lt-ltb j (j + size t) (let l = size-pos t in omega arith))
-        ∙ ap₂ (λ (n : ℕ) (l : List ℕ). take n l) (m ∙ sym (length-words t)) stands ∙ take-append-seam (words t) rest
+        ap₂ (λ (n : ℕ) (l : List ℕ). take n l) (m ∙ sym (length-words t)) stands ∙ take-append-seam (words t) rest
 
-    set-holds : (S E : List ℕ) (σ : Subst) → Holds S E σ → Holds (set S x j) (set E x (j + size t)) (bindTree σ x t)
-    set-holds S E σ h =
-        record {
-          starts8 = simp length-set (h .starts8);
-          ends8 = simp length-set (h .ends8);
-          slots = λ y hy. go y hy (eqb x y) refl;
-        }
-      where
-        go : (y : ℕ) → y < 8 → (b : Bool) → eqb x y ≡ b → slot (set S x j) (set E x (j + size t)) y ≡ words (pick b t (σ y))
-        go y hy true e =
-            let q = eq-of-eqb x y e in
-            let l : x < length S = omega (arith, h .starts8) in
-            let k : x < length E = omega (arith, h .ends8) in
-            ap₂ (λ (a b : ℕ). wordsFrom ss a b) (ap (λ (i : ℕ). getD (set S x j) i 0) (sym q) ∙ getD-set-same S x j 0 l) (ap (λ (i : ℕ). getD (set E x (j + size t)) i 0) (sym q) ∙ getD-set-same E x (j + size t) 0 k)
-            ∙ the-part
-        go y hy false e =
-            let n : y ≢ x = λ q. ne-of-eqb x y e (sym q) in
-            ap₂ (λ (a b : ℕ). wordsFrom ss a b) (getD-set-other S x y j 0 n) (getD-set-other E x y (j + size t) 0 n) ∙ h .slots y hy
+    module _ (S E : List ℕ) (σ : Subst) (h : Holds S E σ) where
+      abbrev S′ : List ℕ
+      S′ = set S x j
 
-    take-var : (ps S E : List ℕ) (σ : Subst) → Holds S E σ → After ((64 + x) ∷ ps) ps j (j + size t) S E (bindTree σ x t)
+      abbrev E′ : List ℕ
+      E′ = set E x (j + size t)
+
+      start-same : (y : ℕ) → eqb x y ≡ true → getD S′ y 0 ≡ j
+      start-same y e = let l : x < length S = omega (arith, h .starts8) in ap (λ (i : ℕ). getD S′ i 0) (sym (eq-of-eqb x y e)) ∙ getD-set-same S x j 0 l
+
+      end-same : (y : ℕ) → eqb x y ≡ true → getD E′ y 0 ≡ j + size t
+      end-same y e = let l : x < length E = omega (arith, h .ends8) in ap (λ (i : ℕ). getD E′ i 0) (sym (eq-of-eqb x y e)) ∙ getD-set-same E x (j + size t) 0 l
+
+      start-other : (y : ℕ) → eqb x y ≡ false → getD S′ y 0 ≡ getD S y 0
+      start-other y e = getD-set-other S x y j 0 (λ q. ne-of-eqb x y e (sym q))
+
+      end-other : (y : ℕ) → eqb x y ≡ false → getD E′ y 0 ≡ getD E y 0
+      end-other y e = getD-set-other E x y (j + size t) 0 (λ q. ne-of-eqb x y e (sym q))
+
+      set-full : (y : ℕ) → eqb x y ≡ true → Full S′ E′ y
+      set-full y e = omega (arith, size-pos t, start-same y e, end-same y e)
+
+      set-kept : (y : ℕ) → Full S E y → Full S′ E′ y
+      set-kept y f = go (eqb x y) refl
+        where
+          go : (b : Bool) → eqb x y ≡ b → Full S′ E′ y
+          go true e = set-full y e
+          go false e = omega (arith, f, start-other y e, end-other y e)
+
+      set-holds : Holds S′ E′ (bindTree σ x t)
+      set-holds =
+          record {
+            starts8 = simp length-set (h .starts8);
+            ends8 = simp length-set (h .ends8);
+            slots = λ y hy f. go y hy f (eqb x y) refl;
+          }
+        where
+          go : (y : ℕ) → y < 8 → Full S′ E′ y → (b : Bool) → eqb x y ≡ b → slot S′ E′ y ≡ words (pick b t (σ y))
+          go y hy f true e = ap₂ (λ (a b : ℕ). part a b ss) (start-same y e) (end-same y e) ∙ the-part
+          go y hy f false e =
+              let p = start-other y e in
+              let q = end-other y e in
+              ap₂ (λ (a b : ℕ). part a b ss) p q ∙ h .slots y hy (omega (arith, f, p, q))
+
+    take-var : (ps S E : List ℕ) (σ : Subst) → Holds S E σ → After ((64 + x) ∷ ps) ps j (j + size t) S E (bindTree σ x t) (x ∷ [])
     take-var ps S E σ h =
         let q = takes-var ks ss (64 + x) j (isVar-word x hx) ∙ skip-tree ks ss j t rest ht stands in
         record {
@@ -159,10 +201,12 @@ module _ (ks ss : List ℕ) where
           fit = fits-on (64 + x) ps j (j + size t) q;
           bind = binds-on (64 + x) ps j S E (j + size t) q ∙ ap₂ (λ (a b : List ℕ). binds ks ss ps (j + size t) a b) (noted-var S x j hx) (noted-var E x (j + size t) hx);
           holds = set-holds S E σ h;
+          kept = set-kept S E σ h;
+          filled = λ y e. set-full S E σ h y (eqb-true x y (elem-one y x e));
         }
 
   -- any other word takes itself
-  take-same : (s : ℕ) → isVar s ≡ false → (ps S E : List ℕ) (j : ℕ) (σ : Subst) (rest : List ℕ) → drop j ss ≡ s ∷ rest → Holds S E σ → After (s ∷ ps) ps j (j + 1) S E σ
+  take-same : (s : ℕ) → isVar s ≡ false → (ps S E : List ℕ) (j : ℕ) (σ : Subst) (rest : List ℕ) → drop j ss ≡ s ∷ rest → Holds S E σ → After (s ∷ ps) ps j (j + 1) S E σ []
   take-same s v ps S E j σ rest stands h =
       let w = word-at ss j s rest stands in
       let q = takes-same ks ss s j v (w .within) (sym (w .word)) in
@@ -172,6 +216,8 @@ module _ (ks ss : List ℕ) where
         fit = fits-on s ps j (j + 1) q;
         bind = binds-on s ps j S E (j + 1) q ∙ ap₂ (λ (a b : List ℕ). binds ks ss ps (j + 1) a b) (noted-plain S s j v) (noted-plain E s (j + 1) v);
         holds = h;
+        kept = λ x f. f;
+        filled = λ x e. absurd (false≢true e);
       }
 
   take-other : (s r : ℕ) → isVar s ≡ false → s ≢ r → (ps : List ℕ) (j : ℕ) (rest : List ℕ) → drop j ss ≡ r ∷ rest → fits ks ss (s ∷ ps) j ≡ false
@@ -184,49 +230,49 @@ module _ (ks ss : List ℕ) where
 
   mutual
     match-tree : (l t : Tree) (σ : Subst) (ps rest : List ℕ) (j : ℕ) (S E : List ℕ) → Shaped (arityOf ks) l → Shaped (arityOf ks) t → drop j ss ≡ words t ++ rest → Holds S E σ
-        → Outcome (words l ++ ps) ps j (j + size t) S E (match l t σ)
+        → Outcome (words l ++ ps) ps j (j + size t) S E (match l t σ) (treeVars l)
     match-tree (var x) t σ ps rest j S E hl ht e h = take-var x hl t ht j rest e ps S E σ h
     match-tree (node s qs) (var y) σ ps rest j S E hl ht e h = take-other s (64 + y) (hl .0) (not-var s y (hl .0) ht) (allWords qs ++ ps) j rest e
     match-tree (node s qs) (node r ts) σ ps rest j S E hl ht e h =
         go (eqb s r) refl
         (λ q. let f : drop j ss ≡ s ∷ (allWords ts ++ rest) = e ∙ ap (λ (w : ℕ). w ∷ (allWords ts ++ rest)) (sym q) in
         let m : j + 1 + sizes ts ≡ j + suc (sizes ts) = omega arith in
-        subst (λ (k : ℕ). Outcome (s ∷ (allWords qs ++ ps)) ps j k S E (matches qs ts σ)) m
-        (chain (s ∷ (allWords qs ++ ps)) (allWords qs ++ ps) ps j (j + 1) (j + 1 + sizes ts) S E (some σ) (matches qs ts) (take-same s (hl .0) (allWords qs ++ ps) S E j σ (allWords ts ++ rest) f h)
+        subst (λ (k : ℕ). Outcome (s ∷ (allWords qs ++ ps)) ps j k S E (matches qs ts σ) (treesVars qs)) m
+        (chain (s ∷ (allWords qs ++ ps)) (allWords qs ++ ps) ps j (j + 1) (j + 1 + sizes ts) S E [] (treesVars qs) (some σ) (matches qs ts) (take-same s (hl .0) (allWords qs ++ ps) S E j σ (allWords ts ++ rest) f h)
         (λ τ S′ E′ h′. match-trees qs ts τ ps rest (j + 1) S′ E′ (hl .2) (ht .2) (hl .1 ∙ ap (arityOf ks) q ∙ sym (ht .1)) (word-at ss j s (allWords ts ++ rest) f .behind) h′)))
       where
-        go : (b : Bool) → eqb s r ≡ b → (s ≡ r → Outcome (s ∷ (allWords qs ++ ps)) ps j (j + suc (sizes ts)) S E (matches qs ts σ))
-            → Outcome (s ∷ (allWords qs ++ ps)) ps j (j + suc (sizes ts)) S E (pick b (matches qs ts σ) none)
+        go : (b : Bool) → eqb s r ≡ b → (s ≡ r → Outcome (s ∷ (allWords qs ++ ps)) ps j (j + suc (sizes ts)) S E (matches qs ts σ) (treesVars qs))
+            → Outcome (s ∷ (allWords qs ++ ps)) ps j (j + suc (sizes ts)) S E (pick b (matches qs ts σ) none) (treesVars qs)
         go true q on = on (eq-of-eqb s r q)
         go false q on = take-other s r (hl .0) (ne-of-eqb s r q) (allWords qs ++ ps) j (allWords ts ++ rest) e
 
     match-trees : (qs ts : Trees) (σ : Subst) (ps rest : List ℕ) (j : ℕ) (S E : List ℕ) → Shapeds (arityOf ks) qs → Shapeds (arityOf ks) ts → len qs ≡ len ts → drop j ss ≡ allWords ts ++ rest → Holds S E σ
-        → Outcome (allWords qs ++ ps) ps j (j + sizes ts) S E (matches qs ts σ)
+        → Outcome (allWords qs ++ ps) ps j (j + sizes ts) S E (matches qs ts σ) (treesVars qs)
     match-trees [·] [·] σ ps rest j S E hq ht n e h =
-        record { starts = S; ends = E; fit = ap (fits ks ss ps) (sym (add-zero j)); bind = ap (λ (k : ℕ). binds ks ss ps k S E) (sym (add-zero j)); holds = h }
+        record { starts = S; ends = E; fit = ap (fits ks ss ps) (sym (add-zero j)); bind = ap (λ (k : ℕ). binds ks ss ps k S E) (sym (add-zero j)); holds = h; kept = λ x f. f; filled = λ x e. absurd (false≢true e) }
     match-trees [·] (t ▹ ts) σ ps rest j S E hq ht n e h = absurd (omega arith)
     match-trees (q ▹ qs) [·] σ ps rest j S E hq ht n e h = absurd (omega arith)
     match-trees (q ▹ qs) (t ▹ ts) σ ps rest j S E hq ht n e h =
         let f = e ∙ append-assoc (words t) (allWords ts) rest in
         let m : j + size t + sizes ts ≡ j + (size t + sizes ts) = omega arith in
         let n′ : len qs ≡ len ts = omega arith in
-        subst₂ (λ (l : List ℕ) (k : ℕ). Outcome l ps j k S E (andThen (match q t σ) (matches qs ts))) (sym (append-assoc (words q) (allWords qs) ps)) m
-        (chain (words q ++ (allWords qs ++ ps)) (allWords qs ++ ps) ps j (j + size t) (j + size t + sizes ts) S E (match q t σ) (matches qs ts)
+        subst₂ (λ (l : List ℕ) (k : ℕ). Outcome l ps j k S E (andThen (match q t σ) (matches qs ts)) (treeVars q ++ treesVars qs)) (sym (append-assoc (words q) (allWords qs) ps)) m
+        (chain (words q ++ (allWords qs ++ ps)) (allWords qs ++ ps) ps j (j + size t) (j + size t + sizes ts) S E (treeVars q) (treesVars qs) (match q t σ) (matches qs ts)
         (match-tree q t σ (allWords qs ++ ps) (allWords ts ++ rest) j S E (hq .0) (ht .0) f h)
         (λ τ S′ E′ h′. match-trees qs ts τ ps rest (j + size t) S′ E′ (hq .1) (ht .1) n′ (past-tree ss t (allWords ts ++ rest) j f) h′))
 
   -- ---- THE WHOLE LEFT SIDE against the tree at the front
   module _ (l t : Tree) (hl : Shaped (arityOf ks) l) (ht : Shaped (arityOf ks) t) (rest : List ℕ) (e : ss ≡ words t ++ rest) where
-    whole : Outcome (words l) [] 0 (0 + size t) (replicate 8 0) (replicate 8 0) (match l t noSubst)
+    whole : Outcome (words l) [] 0 (0 + size t) (replicate 8 0) (replicate 8 0) (match l t noSubst) (treeVars l)
     whole =
-        subst (λ (qs : List ℕ). Outcome qs [] 0 (0 + size t) (replicate 8 0) (replicate 8 0) (match l t noSubst)) (append-nil (words l))
+        subst (λ (qs : List ℕ). Outcome qs [] 0 (0 + size t) (replicate 8 0) (replicate 8 0) (match l t noSubst) (treeVars l)) (append-nil (words l))
         (match-tree l t noSubst [] rest 0 (replicate 8 0) (replicate 8 0) hl ht e start-holds)
 
     pub fits-is : fits ks ss (words l) 0 ≡ matched (match l t noSubst)
     unfolding fits
     fits-is = go (match l t noSubst) whole
       where
-        go : (o : Option Subst) → Outcome (words l) [] 0 (0 + size t) (replicate 8 0) (replicate 8 0) o → fits ks ss (words l) 0 ≡ matched o
+        go : (o : Option Subst) → Outcome (words l) [] 0 (0 + size t) (replicate 8 0) (replicate 8 0) o (treeVars l) → fits ks ss (words l) 0 ≡ matched o
         go none h = h
         go (some τ) h = h .fit
 
@@ -235,21 +281,13 @@ module _ (ks ss : List ℕ) where
       abbrev pub taken : Bound
       taken = binds ks ss (words l) 0 (replicate 8 0) (replicate 8 0)
 
-      pub bound-is : (x : ℕ) → x < 8 → boundTo ss taken x ≡ words (σ x)
+      pub bound-is : (x : ℕ) → x < 8 → elem x (treeVars l) ≡ true → boundTo ss taken x ≡ words (σ x)
       unfolding binds
-      bound-is x h =
-          let a = subst (Outcome (words l) [] 0 (0 + size t) (replicate 8 0) (replicate 8 0)) q whole in
+      bound-is x h v =
+          let a = subst (λ (o : Option Subst). Outcome (words l) [] 0 (0 + size t) (replicate 8 0) (replicate 8 0) o (treeVars l)) q whole in
           let f : taken ≡ record { starts = a .starts; ends = a .ends } = a .bind in
-          ap (λ (b : Bound). boundTo ss b x) f ∙ a .holds .slots x h
+          ap (λ (b : Bound). boundTo ss b x) f ∙ a .holds .slots x h (a .filled x v)
 
-      -- the right side's words with the taken words in the place of its variables
-      pub filled-is : (r : Tree) → Shaped (arityOf ks) r → fill (boundTo ss taken) (words r) ≡ words (inst σ r)
-      filled-is r hr = same (words r) ∙ sym (fill-words (arityOf ks) r σ hr)
-        where
-          same : (ws : List ℕ) → fill (boundTo ss taken) ws ≡ fill (λ x. words (σ x)) ws
-          same [] = refl
-          same (w ∷ ws) = ap₂ _++_ (one (isVar w) refl) (same ws)
-            where
-              one : (b : Bool) → isVar w ≡ b → pick b (boundTo ss taken (w - 64)) (w ∷ []) ≡ pick b (words (σ (w - 64))) (w ∷ [])
-              one true e = bound-is (w - 64) (isVar-slot w e .1)
-              one false e = refl
+      -- the right side's words with the taken words in the place of its variables, all of which stand on the left
+      pub filled-is : (r : Tree) → Shaped (arityOf ks) r → AllIn (treeVars r) (treeVars l) → fill (boundTo ss taken) (words r) ≡ words (inst σ r)
+      filled-is r hr scoped = fill-words (arityOf ks) (boundTo ss taken) σ r hr (λ x h e. bound-is x h (all-in (treeVars r) (treeVars l) scoped x e))

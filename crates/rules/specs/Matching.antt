@@ -3,9 +3,10 @@ use Prim.Native.Nat.{ℕ, _+_, _-_}
 use mathlib.Core.Bool.{Bool, true, false}
 use mathlib.Core.List.{List, [], _∷_}
 use lib.Dec.{eqb, ltb}
-use lib.ListN.{length, getD, set, take, drop}
+use lib.ListN.{length, getD, set}
 use Rattle.theory.specs.Syntax.{pick}
 use Rattle.theory.specs.Words.{isVar}
+use Rattle.theory.specs.Buffers.{part}
 use Rattle.words.specs.declared.terms.Reach.{Reach}
 use Rattle.words.specs.declared.terms.Reach.the-variants.{End, Short}
 use Rattle.words.specs.Terms.{skipAt}
@@ -34,10 +35,6 @@ binds ks ss [] j starts ends = record { starts = starts; ends = ends }
 binds ks ss (p ∷ ps) j starts ends =
     reached (takes ks ss p j) (λ e. binds ks ss ps e (noted starts p j) (noted ends p e)) (record { starts = starts; ends = ends })
 
--- the words between two places of ss; the word 1 where there are none, which stands for a variable that takes nothing
-abbrev pub wordsFrom : List ℕ → ℕ → ℕ → List ℕ
-wordsFrom ss start end = pick (ltb start end) (take (end - start) (drop start ss)) (1 ∷ [])
-
 -- the words that a variable takes
 abbrev pub boundTo : List ℕ → Bound → ℕ → List ℕ
-boundTo ss b x = wordsFrom ss (getD (b .starts) x 0) (getD (b .ends) x 0)
+boundTo ss b x = part (getD (b .starts) x 0) (getD (b .ends) x 0) ss

@@ -8,8 +8,8 @@ use native.Mathlib.Numerals.{add-one}
 use native.Mathlib.Omega.{arith}
 use lib.Seq.{take-suc, take-all}
 use lib.ListN.{length, take, drop, getD, take-append-drop, length-append, length-take, length-drop}
-use lib.Dec.{leb, ltb}
-use borrow.Author.Tests.{le-leb, lt-leb, leb-true, leb-false, ltb-true, lt-ltb, le-ltb}
+use lib.Dec.{leb}
+use borrow.Author.Tests.{le-leb, lt-leb, leb-true, leb-false}
 use Rattle.theory.specs.Syntax.{pick}
 use Rattle.theory.specs.Words.{isVar}
 use Rattle.theory.specs.Buffers.{over, put, part}
@@ -17,17 +17,16 @@ use Rattle.words.proofs.Writes.{over-append, over-put}
 use Rattle.splice.specs.declared.Shown.{Shown}
 use Rattle.splice.specs.declared.Shown.the-variants.{Word, Bound}
 use Rattle.splice.specs.declared.Written.the-variants.{Count, TooBig}
-use Rattle.splice.specs.Right.{Within, shownBy, wordsOf, lenOf, wordFor, wordLen, new, newLen, placed, writtenOf}
+use Rattle.splice.specs.Right.{Parts, shownBy, wordsOf, lenOf, wordFor, wordLen, new, newLen, placed, writtenOf}
 
 -- what a word stands for is a part of the subject
-bound-of : (b b′ : Bool) (x y w a e n : ℕ) → ltb x y ≡ b′ → pick b (pick b′ (Bound x y) (Word 1)) (Word w) ≡ Bound a e → y ≤ n → (a ≤ e) × (e ≤ n)
-bound-of true true x y w a e n t q k = let p : x ≡ a = cc in let r : y ≡ e = cc in let l : x < y = ltb-true x y t in omega arith
-bound-of true false x y w a e n t q k = let z : _≡_ {A = ℕ} 0 1 = cc in omega arith
-bound-of false b′ x y w a e n t q k = let z : _≡_ {A = ℕ} 0 1 = cc in omega arith
+bound-of : (b : Bool) (x y w a e n : ℕ) → pick b (Bound x y) (Word w) ≡ Bound a e → x ≤ y → y ≤ n → (a ≤ e) × (e ≤ n)
+bound-of true x y w a e n q l k = let p : x ≡ a = cc in let r : y ≡ e = cc in omega arith
+bound-of false x y w a e n q l k = let z : _≡_ {A = ℕ} 0 1 = cc in omega arith
 
-pub bound-within : (starts : List ℕ) {ends : List ℕ} {n : ℕ} (w a e : ℕ) → Within ends n → shownBy starts ends w ≡ Bound a e → (a ≤ e) × (e ≤ n)
+pub bound-within : (starts : List ℕ) {ends : List ℕ} {n : ℕ} (w a e : ℕ) → Parts starts ends n → shownBy starts ends w ≡ Bound a e → (a ≤ e) × (e ≤ n)
 bound-within starts {ends} {n} w a e h q =
-    bound-of (isVar w) (ltb (getD starts (w - 64) 0) (getD ends (w - 64) 0)) (getD starts (w - 64) 0) (getD ends (w - 64) 0) w a e n refl q (h .inside (w - 64))
+    bound-of (isVar w) (getD starts (w - 64) 0) (getD ends (w - 64) 0) w a e n q (h .ordered (w - 64)) (h .within .inside (w - 64))
 
 pub length-part : (a e : ℕ) (l : List ℕ) → e ≤ length l → length (part a e l) ≡ e - a
 length-part a e l h = simp (length-take, length-drop) (omega arith)
@@ -39,11 +38,11 @@ length-words : (subject : List ℕ) (s : Shown) → ((a e : ℕ) → s ≡ Bound
 length-words subject (Word w) h = refl
 length-words subject (Bound a e) h = length-part a e subject (h a e refl .1)
 
-pub length-word : (subject starts ends : List ℕ) (w : ℕ) → Within ends (length subject) → length (wordFor subject starts ends w) ≡ wordLen starts ends w
+pub length-word : (subject starts ends : List ℕ) (w : ℕ) → Parts starts ends (length subject) → length (wordFor subject starts ends w) ≡ wordLen starts ends w
 unfolding wordFor wordLen
 length-word subject starts ends w h = length-words subject (shownBy starts ends w) (λ a e q. bound-within starts w a e h q)
 
-pub length-new : (subject starts ends right : List ℕ) → Within ends (length subject) → length (new subject starts ends right) ≡ newLen starts ends right
+pub length-new : (subject starts ends right : List ℕ) → Parts starts ends (length subject) → length (new subject starts ends right) ≡ newLen starts ends right
 length-new subject starts ends [] h = refl
 length-new subject starts ends (w ∷ right) h =
     length-append (wordFor subject starts ends w) (new subject starts ends right)
@@ -80,11 +79,11 @@ len-of : (s : Shown) (n : ℕ) → ((a e : ℕ) → s ≡ Bound a e → (a ≤ e
 len-of (Word w) n h = omega arith
 len-of (Bound a e) n h = omega (arith, h a e refl)
 
-pub wordLen-le : (starts ends : List ℕ) (w n : ℕ) → Within ends n → wordLen starts ends w ≤ n + 1
+pub wordLen-le : (starts ends : List ℕ) (w n : ℕ) → Parts starts ends n → wordLen starts ends w ≤ n + 1
 unfolding wordLen
 wordLen-le starts ends w n h = len-of (shownBy starts ends w) n (λ a e q. bound-within starts w a e h q)
 
-pub write-more : (subject starts ends right d x : List ℕ) (at i : ℕ) → Within ends (length subject) → i < length right
+pub write-more : (subject starts ends right d x : List ℕ) (at i : ℕ) → Parts starts ends (length subject) → i < length right
     → at ≡ newLen starts ends (take i right) → x ≡ over (new subject starts ends (take i right)) d
     → put at (wordFor subject starts ends (getD right i 0)) x ≡ over (new subject starts ends (take (i + 1) right)) d
 write-more subject starts ends right d x at i h k e q =
@@ -129,17 +128,13 @@ three-parts h n t d =
     ∙ over-append (h ++ n) t d
     ∙ ap (λ (s : List ℕ). over s d) (append-assoc h n t)
 
--- the three cases of a word
+-- the two cases of a word
 module _ (starts ends : List ℕ) (w : ℕ) where
+  abbrev shown : Bool → Shown
+  shown b = pick b (Bound (getD starts (w - 64) 0) (getD ends (w - 64) 0)) (Word w)
+
   pub shows-itself : isVar w ≡ false → Word w ≡ shownBy starts ends w
-  shows-itself v = sym (ap (λ (b : Bool). pick b (pick (ltb (getD starts (w - 64) 0) (getD ends (w - 64) 0)) (Bound (getD starts (w - 64) 0) (getD ends (w - 64) 0)) (Word 1)) (Word w)) v)
+  shows-itself v = sym (ap shown v)
 
-  pub shows-part : isVar w ≡ true → getD starts (w - 64) 0 < getD ends (w - 64) 0 → Bound (getD starts (w - 64) 0) (getD ends (w - 64) 0) ≡ shownBy starts ends w
-  shows-part v h =
-      sym (ap (λ (b : Bool). pick b (pick (ltb (getD starts (w - 64) 0) (getD ends (w - 64) 0)) (Bound (getD starts (w - 64) 0) (getD ends (w - 64) 0)) (Word 1)) (Word w)) v
-      ∙ ap (λ (b : Bool). pick b (Bound (getD starts (w - 64) 0) (getD ends (w - 64) 0)) (Word 1)) (lt-ltb (getD starts (w - 64) 0) (getD ends (w - 64) 0) h))
-
-  pub shows-one : isVar w ≡ true → getD ends (w - 64) 0 ≤ getD starts (w - 64) 0 → Word 1 ≡ shownBy starts ends w
-  shows-one v h =
-      sym (ap (λ (b : Bool). pick b (pick (ltb (getD starts (w - 64) 0) (getD ends (w - 64) 0)) (Bound (getD starts (w - 64) 0) (getD ends (w - 64) 0)) (Word 1)) (Word w)) v
-      ∙ ap (λ (b : Bool). pick b (Bound (getD starts (w - 64) 0) (getD ends (w - 64) 0)) (Word 1)) (le-ltb (getD starts (w - 64) 0) (getD ends (w - 64) 0) h))
+  pub shows-part : isVar w ≡ true → Bound (getD starts (w - 64) 0) (getD ends (w - 64) 0) ≡ shownBy starts ends w
+  shows-part v = sym (ap shown v)

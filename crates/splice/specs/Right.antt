@@ -1,9 +1,9 @@
 -- A rule's right side with its variables replaced. Variable v is the word 64+v, for v below 8, and is bound to the words from
--- starts[v] up to ends[v] of the subject; where that is nothing, it stands for the word 1.
+-- starts[v] up to ends[v] of the subject.
 use Prim.Native.Nat.{ℕ, _+_, _-_, _≤_}
 use mathlib.Core.List.{List, [], _∷_, _++_}
 use lib.ListN.{length, getD, take, drop}
-use lib.Dec.{leb, ltb}
+use lib.Dec.{leb}
 use Rattle.theory.specs.Syntax.{pick}
 use Rattle.theory.specs.Words.{isVar}
 use Rattle.theory.specs.Buffers.{over, part}
@@ -16,13 +16,14 @@ use Rattle.splice.specs.declared.Written.the-variants.{Count, TooBig}
 pub record Within (ends : List ℕ) (n : ℕ) : Type 0 where
   pub inside : (v : ℕ) → getD ends v 0 ≤ n
 
--- a part that starts before it ends; where there is none, the word 1
-abbrev pub boundOr : ℕ → ℕ → Shown
-boundOr a e = pick (ltb a e) (Bound a e) (Word 1)
+-- and ends no earlier than it starts
+pub record Parts (starts ends : List ℕ) (n : ℕ) : Type 0 where
+  pub within : Within ends n
+  pub ordered : (v : ℕ) → getD starts v 0 ≤ getD ends v 0
 
 -- what the right side's word w stands for: of a variable's word its part; else itself
 abbrev pub shownBy : List ℕ → List ℕ → ℕ → Shown
-shownBy starts ends w = pick (isVar w) (boundOr (getD starts (w - 64) 0) (getD ends (w - 64) 0)) (Word w)
+shownBy starts ends w = pick (isVar w) (Bound (getD starts (w - 64) 0) (getD ends (w - 64) 0)) (Word w)
 
 -- the words that it stands for, and how many there are
 abbrev pub wordsOf : List ℕ → Shown → List ℕ

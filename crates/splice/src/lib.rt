@@ -1,8 +1,8 @@
 // A rewrite step's new term, written into a second buffer: what stands before the rewritten place, the right side with its
 // variables replaced by the parts that they are bound to, what stands behind.
 //
-// A variable v is bound to the words starts[v]..ends[v] of the subject, the words from the rewritten place on; one that is bound to
-// nothing stands for the word 1, as in the theory (`noSubst`).
+// A variable v is bound to the words starts[v]..ends[v] of the subject, the words from the rewritten place on. One that the left side has
+// not is bound to no words: no right side of an accepted program has such a variable.
 use rules::matching::is_var;
 use rules::matching::word;
 use words::slices::copy_into;
@@ -11,7 +11,7 @@ ghost use mathlib.Core.Path.{_≡_};
 ghost use Prim.Native.Nat.{_+_, _-_, _≤_};
 ghost use lib.ListN.{length, take, drop};
 ghost use Rattle.theory.specs.Buffers.{over, put};
-ghost use Rattle.splice.specs.Right.{Within, shownBy, wordLen, wordFor, newLen, new, stepOf, placed, writtenOf};
+ghost use Rattle.splice.specs.Right.{Parts, shownBy, wordLen, wordFor, newLen, new, stepOf, placed, writtenOf};
 
 // The answer of a write that may not fit.
 pub enum Written {
@@ -36,17 +36,14 @@ fn shown_by(w: u16, starts: &[usize; 8], ends: &[usize; 8]) -> Shown
         let v = word(w - 64);
         let a = starts[v];
         let e = ends[v];
-        if a < e {
-            return Shown::Bound(a, e);
-        }
-        return Shown::Word(1);
+        return Shown::Bound(a, e);
     }
     Shown::Word(w)
 }
 
 // How many words stand for the right side's word w.
 fn word_len(w: u16, starts: &[usize; 8], ends: &[usize; 8], most: usize) -> usize
-    requires { ⌜ Within (now ends) most ⌝ }
+    requires { ⌜ Parts (now starts) (now ends) most ⌝ }
     ensures { λ r. ⌜ r ≡ wordLen (now (starts .entry)) (now (ends .entry)) w ⌝ }
 {
     match shown_by(w, starts, ends) {
@@ -64,7 +61,7 @@ fn put_word(
     starts: &[usize; 8],
     ends: &[usize; 8],
 ) -> usize
-    requires { ⌜ Within (now ends) (length (now subject)) ⌝ }
+    requires { ⌜ Parts (now starts) (now ends) (length (now subject)) ⌝ }
     requires { ⌜ n + wordLen (now starts) (now ends) w ≤ length (now dst) ⌝ }
     ensures { λ r. ⌜ r ≡ n + wordLen (now (starts .entry)) (now (ends .entry)) w ⌝ }
     ensures { λ _. ⌜ now (dst .exit) ≡ put n (wordFor (now (subject .entry)) (now (starts .entry)) (now (ends .entry)) w) (now (dst .entry)) ⌝ }
@@ -83,7 +80,7 @@ fn put_word(
 
 // How many words the right side comes to.
 fn new_len(right: &[u16], starts: &[usize; 8], ends: &[usize; 8], most: usize) -> usize
-    requires { ⌜ Within (now ends) most ⌝ }
+    requires { ⌜ Parts (now starts) (now ends) most ⌝ }
     requires { ⌜ (length (now right) ≤ 65536) × (most ≤ 65536) ⌝ }
     ensures { λ r. ⌜ r ≡ newLen (now (starts .entry)) (now (ends .entry)) (now (right .entry)) ⌝ }
 {
@@ -104,7 +101,7 @@ pub fn write_right(
     starts: &[usize; 8],
     ends: &[usize; 8],
 ) -> Written
-    requires { ⌜ Within (now ends) (length (now subject)) ⌝ }
+    requires { ⌜ Parts (now starts) (now ends) (length (now subject)) ⌝ }
     requires { ⌜ (length (now right) ≤ 65536) × (length (now subject) ≤ 65536) ⌝ }
     ensures { λ r. ⌜ r ≡ writtenOf (length (now (dst .entry))) (new (now (subject .entry)) (now (starts .entry)) (now (ends .entry)) (now (right .entry))) ⌝ }
     ensures { λ _. ⌜ now (dst .exit) ≡ placed (length (now (dst .entry))) (new (now (subject .entry)) (now (starts .entry)) (now (ends .entry)) (now (right .entry))) (now (dst .entry)) ⌝ }
@@ -144,7 +141,7 @@ pub fn step_into(
     room: usize,
 ) -> Written
     requires { ⌜ (at ≤ end) × ((end ≤ length (now term)) × ((length (now term) ≤ room) × (room ≤ length (now second)))) ⌝ }
-    requires { ⌜ Within (now ends) (length (now term) - at) ⌝ }
+    requires { ⌜ Parts (now starts) (now ends) (length (now term) - at) ⌝ }
     requires { ⌜ (length (now right) ≤ 65536) × (room ≤ 65536) ⌝ }
     ensures { λ r. ⌜ r ≡ writtenOf room (stepOf (now (term .entry)) at end (now (right .entry)) (now (starts .entry)) (now (ends .entry))) ⌝ }
     ensures { λ _. ⌜ now (second .exit) ≡ placed room (stepOf (now (term .entry)) at end (now (right .entry)) (now (starts .entry)) (now (ends .entry))) (now (second .entry)) ⌝ }

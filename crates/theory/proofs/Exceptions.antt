@@ -56,8 +56,8 @@ evaluator-exception p q s t ep eq levels n e a =
         go true = h
         go false = tt
 
--- THE REWRITER. Under fire stands no symbol past the exceptions'. On the sides of rules a variable may stand under fire too: those that Γ says,
--- which on a left side stand nowhere else.
+-- THE REWRITER. Under fire stands a symbol, and none past the exceptions'. On the sides of rules a variable may stand under fire too: those that
+-- Γ says, which on a left side stand nowhere else.
 abbrev below : (ℕ → Bool) → Trees → Bool
 below Γ [·] = true
 below Γ (var x ▹ ts) = Γ x
@@ -81,17 +81,20 @@ abbrev mutual
   allBind Γ b [·] = true
   allBind Γ b (t ▹ ts) = binds Γ b t && allBind Γ false ts
 
--- a tree of a run, where a variable counts as no symbol at all
-abbrev Fires : Tree → Type 0
-Fires t = T (fires (λ x. true) t)
+-- a tree of a run: no variable stands under fire
+abbrev noneUnder : ℕ → Bool
+noneUnder x = false
+
+abbrev pub Fires : Tree → Type 0
+Fires t = T (fires noneUnder t)
 
 abbrev FiresAll : Trees → Type 0
-FiresAll ts = T (allFire (λ x. true) ts)
+FiresAll ts = T (allFire noneUnder ts)
 
 abbrev Below : Trees → Type 0
-Below ts = T (below (λ x. true) ts)
+Below ts = T (below noneUnder ts)
 
-abbrev FiresO : Option Tree → Type 0
+abbrev pub FiresO : Option Tree → Type 0
 FiresO none = Unit {0}
 FiresO (some t) = Fires t
 
@@ -120,7 +123,7 @@ or-left false b h f = f h
 
 -- the first part alone decides
 below-head : (t : Tree) (ts us : Trees) → Below (t ▹ ts) → Below (t ▹ us)
-below-head (var x) ts us h = tt
+below-head (var x) ts us h = h
 below-head (node s vs) ts us h = h
 
 under-fire : (s : ℕ) (c : Bool) → T (not (eqb s 6) || c) → s ≡ 6 → T c
@@ -147,12 +150,12 @@ module _ (Γ : ℕ → Bool) where
     match-fills b (var x) t σ hl ht hb hs = bind-fills b x t σ hl ht hb hs
     match-fills b (node s ps) (var y) σ hl ht hb hs = tt
     match-fills b (node s ps) (node r ts) σ hl ht hb hs =
-        go (eqb s r) refl (λ k. matches-fill (eqb s 6) ps ts σ hl (and-right (not (eqb r 6) || below (λ x. true) ts) (allFire (λ x. true) ts) ht) k hs)
+        go (eqb s r) refl (λ k. matches-fill (eqb s 6) ps ts σ hl (and-right (not (eqb r 6) || below noneUnder ts) (allFire noneUnder ts) ht) k hs)
       where
         go : (c : Bool) → eqb s r ≡ c → ((T (eqb s 6) → Below ts) → FillingO Γ (matches ps ts σ)) → FillingO Γ (pick c (matches ps ts σ) none)
         go true e ih =
             ih
-            (λ k. under-fire r (below (λ x. true) ts) (and-left (not (eqb r 6) || below (λ x. true) ts) (allFire (λ x. true) ts) ht)
+            (λ k. under-fire r (below noneUnder ts) (and-left (not (eqb r 6) || below noneUnder ts) (allFire noneUnder ts) ht)
             (sym (eqb→eq s r (true→T (eqb s r) e)) ∙ eqb→eq s 6 k))
         go false e ih = tt
 
@@ -162,8 +165,8 @@ module _ (Γ : ℕ → Bool) where
     matches-fill b (l ▹ ls) [·] σ hl ht hb hs = tt
     matches-fill b (l ▹ ls) (t ▹ ts) σ hl ht hb hs =
         then-fills (match l t σ) (matches ls ts)
-        (match-fills b l t σ (and-left (binds Γ b l) (allBind Γ false ls) hl) (and-left (fires (λ x. true) t) (allFire (λ x. true) ts) ht) (λ k. below-head t ts [·] (hb k)) hs)
-        (λ τ k. matches-fill false ls ts τ (and-right (binds Γ b l) (allBind Γ false ls) hl) (and-right (fires (λ x. true) t) (allFire (λ x. true) ts) ht) (λ f. absurd f) k)
+        (match-fills b l t σ (and-left (binds Γ b l) (allBind Γ false ls) hl) (and-left (fires noneUnder t) (allFire noneUnder ts) ht) (λ k. below-head t ts [·] (hb k)) hs)
+        (λ τ k. matches-fill false ls ts τ (and-right (binds Γ b l) (allBind Γ false ls) hl) (and-right (fires noneUnder t) (allFire noneUnder ts) ht) (λ f. absurd f) k)
 
   below-filled : (ts : Trees) (σ : Subst) → Filling Γ σ → T (below Γ ts) → Below (insts σ ts)
   below-filled [·] σ hs h = tt
@@ -174,14 +177,14 @@ module _ (Γ : ℕ → Bool) where
     inst-fires : (t : Tree) (σ : Subst) → T (fires Γ t) → Filling Γ σ → Fires (inst σ t)
     inst-fires (var x) σ h hs = hs x .0
     inst-fires (node s ts) σ h hs =
-        both (not (eqb s 6) || below (λ x. true) (insts σ ts)) (allFire (λ x. true) (insts σ ts))
-        (or-map (not (eqb s 6)) (below Γ ts) (below (λ x. true) (insts σ ts)) (below-filled ts σ hs) (and-left (not (eqb s 6) || below Γ ts) (allFire Γ ts) h))
+        both (not (eqb s 6) || below noneUnder (insts σ ts)) (allFire noneUnder (insts σ ts))
+        (or-map (not (eqb s 6)) (below Γ ts) (below noneUnder (insts σ ts)) (below-filled ts σ hs) (and-left (not (eqb s 6) || below Γ ts) (allFire Γ ts) h))
         (insts-fire ts σ (and-right (not (eqb s 6) || below Γ ts) (allFire Γ ts) h) hs)
 
     insts-fire : (ts : Trees) (σ : Subst) → T (allFire Γ ts) → Filling Γ σ → FiresAll (insts σ ts)
     insts-fire [·] σ h hs = tt
     insts-fire (t ▹ ts) σ h hs =
-        both (fires (λ x. true) (inst σ t)) (allFire (λ x. true) (insts σ ts)) (inst-fires t σ (and-left (fires Γ t) (allFire Γ ts) h) hs)
+        both (fires noneUnder (inst σ t)) (allFire noneUnder (insts σ ts)) (inst-fires t σ (and-left (fires Γ t) (allFire Γ ts) h) hs)
         (insts-fire ts σ (and-right (fires Γ t) (allFire Γ ts) h) hs)
 
 -- rules that keep it
@@ -214,19 +217,19 @@ fit-fires (r ∷ rs) h t k = go (apply r t) (apply-fires r t (h .0) k) (fit-fire
 module _ (root : Tree → Option Tree) (keeps : (t : Tree) → Fires t → FiresO (root t)) where
   inside-fires : (s : ℕ) (o : Option Trees) (r : Option Tree) → (s ≡ 6 → o ≡ none) → FiresAllO o → FiresO r → FiresO (inside s o r)
   inside-fires s none r e h k = k
-  inside-fires s (some us) r e h k = both (not (eqb s 6) || below (λ x. true) us) (allFire (λ x. true) us) (go (eqb s 6) refl) h
+  inside-fires s (some us) r e h k = both (not (eqb s 6) || below noneUnder us) (allFire noneUnder us) (go (eqb s 6) refl) h
     where
-      go : (c : Bool) → eqb s 6 ≡ c → T (not c || below (λ x. true) us)
+      go : (c : Bool) → eqb s 6 ≡ c → T (not c || below noneUnder us)
       go true i = absurd (Option·none-ne-some us (sym (e (eq-of-eqb s 6 i))))
       go false i = tt
 
   first-fires : (ts : Trees) (o : Option Tree) → FiresAll ts → FiresO o → FiresAllO (first ts o)
   first-fires ts none h k = tt
-  first-fires ts (some t) h k = both (fires (λ x. true) t) (allFire (λ x. true) ts) k h
+  first-fires ts (some t) h k = both (fires noneUnder t) (allFire noneUnder ts) k h
 
   later-fires : (t : Tree) (o : Option Trees) → Fires t → FiresAllO o → FiresAllO (later t o)
   later-fires t none h k = tt
-  later-fires t (some ts) h k = both (fires (λ x. true) t) (allFire (λ x. true) ts) h k
+  later-fires t (some ts) h k = both (fires noneUnder t) (allFire noneUnder ts) h k
 
   mutual
     unfolding step
@@ -235,20 +238,17 @@ module _ (root : Tree → Option Tree) (keeps : (t : Tree) → Fires t → Fires
     step-fires (var x) h = tt
     step-fires (node s ts) h =
         inside-fires s (stepPart root ts (active s)) (root (node s ts)) (λ e. ap (λ (i : ℕ). stepPart root ts (active i)) e ∙ stepPart-zero root ts)
-        (part-fires ts (active s) (and-right (not (eqb s 6) || below (λ x. true) ts) (allFire (λ x. true) ts) h)) (keeps (node s ts) h)
+        (part-fires ts (active s) (and-right (not (eqb s 6) || below noneUnder ts) (allFire noneUnder ts) h)) (keeps (node s ts) h)
 
     part-fires : (ts : Trees) (i : ℕ) → FiresAll ts → FiresAllO (stepPart root ts i)
     part-fires [·] i h = tt
     part-fires (t ▹ ts) zero h = tt
     part-fires (t ▹ ts) (suc zero) h =
-        first-fires ts (step root t) (and-right (fires (λ x. true) t) (allFire (λ x. true) ts) h) (step-fires t (and-left (fires (λ x. true) t) (allFire (λ x. true) ts) h))
+        first-fires ts (step root t) (and-right (fires noneUnder t) (allFire noneUnder ts) h) (step-fires t (and-left (fires noneUnder t) (allFire noneUnder ts) h))
     part-fires (t ▹ ts) (suc (suc i)) h =
-        later-fires t (stepPart root ts (suc i)) (and-left (fires (λ x. true) t) (allFire (λ x. true) ts) h) (part-fires ts (suc i) (and-right (fires (λ x. true) t) (allFire (λ x. true) ts) h))
+        later-fires t (stepPart root ts (suc i)) (and-left (fires noneUnder t) (allFire noneUnder ts) h) (part-fires ts (suc i) (and-right (fires noneUnder t) (allFire noneUnder ts) h))
 
 -- terms have no fire in them
-abbrev noneUnder : ℕ → Bool
-noneUnder x = false
-
 module _ (Γ : ℕ → Bool) where
   other-fires : (s : ℕ) (ts : Trees) → s ≢ 6 → T (allFire Γ ts) → T (fires Γ (node s ts))
   other-fires s ts e h = subst (λ (b : Bool). T ((not b || below Γ ts) && allFire Γ ts)) (sym (eqb-false s 6 e)) h
@@ -354,6 +354,21 @@ rules-fire P few =
     (append-fire commonRules (gather (funRules (P .fun)) builtins) common-fire (gather-fire (funRules (P .fun)) builtins (function-fire (P .fun))))
     (append-fire (exnRules (P .exns)) (gather (funRules (P .fun)) (P .own)) (exceptions-fire (P .exns) few) (gather-fire (funRules (P .fun)) (P .own) (function-fire (P .fun))))
 
+-- so in a run of a program with at most 16 exceptions: the question fires so, and each step keeps it
+pub question-fires : (t : Term) → Fires (tree t)
+question-fires t = tree-fires noneUnder t
+
+pub program-fires : (P : Program) → P .exns ≤ 16 → (t : Tree) → Fires t → FiresO (step (firstFit (rules P)) t)
+program-fires P few = step-fires (firstFit (rules P)) (fit-fires (rules P) (rules-fire P few))
+
+pub fires-part : (s : ℕ) (t : Tree) (ts : Trees) → Fires (node s (t ▹ ts)) → Fires t
+fires-part s t ts h =
+    and-left (fires noneUnder t) (allFire noneUnder ts) (and-right (not (eqb s 6) || below noneUnder (t ▹ ts)) (allFire noneUnder (t ▹ ts)) h)
+
+-- BEHIND FIRE stands no variable
+pub no-variable-fired : (x : ℕ) (ts : Trees) → Fires (node 6 (var x ▹ ts)) → ⊥
+no-variable-fired x ts h = h
+
 -- what is read off
 under-low : (e : Ending) → RaisesLow (underSucc e)
 under-low (value v) = tt
@@ -363,7 +378,7 @@ under-low tooDeep = tt
 
 exception-low : (ts : Trees) → Below ts → exceptionOf ts < 16
 exception-low [·] h = omega arith
-exception-low (var x ▹ ts) h = omega arith
+exception-low (var x ▹ ts) h = absurd h
 exception-low (node s us ▹ ts) h = let l = leb→le (suc s) 48 h in omega (arith, l)
 
 pick-low : (b : Bool) (x y : Ending) → (T b → RaisesLow x) → RaisesLow y → RaisesLow (pick b x y)
@@ -375,7 +390,7 @@ read-low (var x) h = tt
 read-low (node s ts) h =
     pick-low (eqb s 1) _ _ (λ k. tt) (pick-low (eqb s 3) _ _ (λ k. tt) (pick-low (eqb s 4) _ _ (λ k. tt) (pick-low (eqb s 2) _ _ (λ k. under-low (readOffPart ts))
     (pick-low (eqb s 6) (raised (exceptionOf ts)) (stuck 0)
-    (λ k. exception-low ts (under-fire s (below (λ x. true) ts) (and-left (not (eqb s 6) || below (λ x. true) ts) (allFire (λ x. true) ts) h) (eqb→eq s 6 k))) tt))))
+    (λ k. exception-low ts (under-fire s (below noneUnder ts) (and-left (not (eqb s 6) || below noneUnder ts) (allFire noneUnder ts) h) (eqb→eq s 6 k))) tt))))
 
 module _ (root : Tree → Option Tree) (keeps : (t : Tree) → Fires t → FiresO (root t)) where
   run-low : (room n : ℕ) (t : Tree) → Fires t → SaysLow (runInRoom root room n t .said)
@@ -405,5 +420,5 @@ rewriter-exception p s ep room n t e a = subst SaysLow a (go (leb (size (tree t)
     root = firstFit (rules (programOf s))
 
     go : (b : Bool) → SaysLow (choose b (λ x. runInRoom (firstFit (rules (programOf s))) room n (tree t)) (λ x. says tooBig 0) .said)
-    go true = run-low root (fit-fires (rules (programOf s)) (rules-fire (programOf s) (program-on-bytes p s ep .0))) room n (tree t) (tree-fires (λ x. true) t)
+    go true = run-low root (fit-fires (rules (programOf s)) (rules-fire (programOf s) (program-on-bytes p s ep .0))) room n (tree t) (tree-fires noneUnder t)
     go false = tt

@@ -1,12 +1,15 @@
 -- The words of a right side with its variables replaced are the words of the tree with them replaced.
-use Prim.Native.Nat.{ℕ, _+_, _-_}
+use Prim.Native.Nat.{ℕ, _+_, _-_, _<_}
 use mathlib.Core.Path.{_≡_, refl, sym, ap, ap₂, _∙_}
-use mathlib.Core.Bool.{Bool}
+use mathlib.Core.Bool.{Bool, true, false, _||_}
 use mathlib.Core.List.{List, [], _∷_, _++_, append-assoc, append-nil}
 use native.Mathlib.Omega.{arith}
-use Rattle.theory.specs.Syntax.{pick}
+use Rattle.theory.specs.Syntax.{pick, elem}
 use Rattle.theory.specs.Tree.{Tree, Trees, var, node, [·], _▹_, Subst, inst, insts}
 use Rattle.theory.specs.Words.{words, allWords, isVar, Shaped, Shapeds}
+use Rattle.theory.specs.Proper.{treeVars, treesVars}
+use Rattle.theory.proofs.Tests.{eqb-true}
+use Rattle.theory.proofs.Members.{elem-left, elem-right}
 use Rattle.theory.proofs.Readability.{isVar-word}
 
 -- the words of a right side, each variable replaced by the words that are bound to it
@@ -19,18 +22,22 @@ fill-append ρ [] ys = refl
 fill-append ρ (w ∷ xs) ys =
     ap (pick (isVar w) (ρ (w - 64)) (w ∷ []) ++_) (fill-append ρ xs ys) ∙ sym (append-assoc (pick (isVar w) (ρ (w - 64)) (w ∷ [])) (fill ρ xs) (fill ρ ys))
 
-module _ (parts : ℕ → ℕ) where
-  mutual
-    -- FILLING IN
-    pub fill-words : (t : Tree) (σ : Subst) → Shaped parts t → words (inst σ t) ≡ fill (λ x. words (σ x)) (words t)
-    fill-words (var x) σ h =
-        sym (append-nil (words (σ x)))
-        ∙ ap (_++ []) (ap (λ (y : ℕ). words (σ y)) (omega arith) ∙ sym (ap (λ (b : Bool). pick b (words (σ (64 + x - 64))) ((64 + x) ∷ [])) (isVar-word x h)))
-    fill-words (node s ts) σ h =
-        ap (s ∷_) (fill-wordss ts σ (h .2))
-        ∙ sym (ap (λ (b : Bool). pick b (words (σ (s - 64))) (s ∷ []) ++ fill (λ x. words (σ x)) (allWords ts)) (h .0))
+-- ρ has the words that σ gives each variable of a list
+abbrev Same : (ℕ → List ℕ) → Subst → List ℕ → Type 0
+Same ρ σ xs = (x : ℕ) → x < 8 → elem x xs ≡ true → ρ x ≡ words (σ x)
 
-    fill-wordss : (ts : Trees) (σ : Subst) → Shapeds parts ts → allWords (insts σ ts) ≡ fill (λ x. words (σ x)) (allWords ts)
-    fill-wordss [·] σ h = refl
-    fill-wordss (t ▹ ts) σ h =
-        ap₂ _++_ (fill-words t σ (h .0)) (fill-wordss ts σ (h .1)) ∙ sym (fill-append (λ x. words (σ x)) (words t) (allWords ts))
+module _ (parts : ℕ → ℕ) (ρ : ℕ → List ℕ) (σ : Subst) where
+  mutual
+    -- FILLING IN: it is enough that the tree's own variables are bound to the right words
+    pub fill-words : (t : Tree) → Shaped parts t → Same ρ σ (treeVars t) → fill ρ (words t) ≡ words (inst σ t)
+    fill-words (var x) h b =
+        let m : 64 + x - 64 ≡ x = omega arith in
+        ap (λ (v : Bool). pick v (ρ (64 + x - 64)) ((64 + x) ∷ []) ++ []) (isVar-word x h) ∙ append-nil (ρ (64 + x - 64)) ∙ ap ρ m ∙ b x h (ap (_|| false) (eqb-true x x refl))
+    fill-words (node s ts) h b =
+        ap (λ (v : Bool). pick v (ρ (s - 64)) (s ∷ []) ++ fill ρ (allWords ts)) (h .0) ∙ ap (s ∷_) (fill-wordss ts (h .2) b)
+
+    fill-wordss : (ts : Trees) → Shapeds parts ts → Same ρ σ (treesVars ts) → fill ρ (allWords ts) ≡ allWords (insts σ ts)
+    fill-wordss [·] h b = refl
+    fill-wordss (t ▹ ts) h b =
+        fill-append ρ (words t) (allWords ts)
+        ∙ ap₂ _++_ (fill-words t (h .0) (λ x l e. b x l (elem-left x (treeVars t) (treesVars ts) e))) (fill-wordss ts (h .1) (λ x l e. b x l (elem-right x (treeVars t) (treesVars ts) e)))

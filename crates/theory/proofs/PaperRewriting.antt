@@ -14,8 +14,9 @@ use Rattle.theory.specs.Rewriting.{Finite, Position, part, _∣_, change
 use Rattle.theory.specs.Words.{Shaped, Shapeds}
 use Rattle.theory.specs.Translation.{aux}
 use Rattle.theory.specs.Overlap.{IsSome, alone, apart}
-use Rattle.theory.specs.Proper.{Distinct, AllIn, treeVars, treesVars, ProperRule, ApartRule, ProperRules}
+use Rattle.theory.specs.Proper.{Distinct, treeVars, treesVars, ProperRule, ApartRule, ProperRules}
 use Rattle.theory.proofs.Tests.{T→true, le-of-leb, eqb-true, eq-of-eqb}
+use Rattle.theory.proofs.Members.{or-true, elem-append, elem-left, elem-right, elem-one, all-in}
 use Rattle.theory.proofs.Reach.{step-shut}
 use Rattle.theory.proofs.OverlapMeaning.{only-one}
 use Rattle.theory.proofs.Shape.{parts-aux}
@@ -37,37 +38,7 @@ or-false : (a b : Bool) → (a || b) ≡ false → (a ≡ false) × (b ≡ false
 or-false true b e = absurd (false≢true (sym e))
 or-false false b e = (refl, e)
 
-or-true : (a b : Bool) → (a || b) ≡ true → (a ≡ true) ⊎ (b ≡ true)
-or-true true b e = inl refl
-or-true false b e = inr e
-
-or-right : (a b : Bool) → b ≡ true → (a || b) ≡ true
-or-right true b e = refl
-or-right false b e = e
-
--- MEMBERS OF LISTS
-elem-append : (x : ℕ) (xs ys : List ℕ) → elem x (xs ++ ys) ≡ (elem x xs || elem x ys)
-elem-append x [] ys = refl
-elem-append x (y ∷ xs) ys = go (eqb y x) (elem-append x xs ys)
-  where
-    go : (b : Bool) → elem x (xs ++ ys) ≡ (elem x xs || elem x ys) → (b || elem x (xs ++ ys)) ≡ (b || elem x xs || elem x ys)
-    go true e = refl
-    go false e = e
-
-elem-left : (x : ℕ) (xs ys : List ℕ) → elem x xs ≡ true → elem x (xs ++ ys) ≡ true
-elem-left x xs ys h = elem-append x xs ys ∙ ap (_|| elem x ys) h
-
-elem-right : (x : ℕ) (xs ys : List ℕ) → elem x ys ≡ true → elem x (xs ++ ys) ≡ true
-elem-right x xs ys h = elem-append x xs ys ∙ or-right (elem x xs) (elem x ys) h
-
-elem-one : (x y : ℕ) → elem x (y ∷ []) ≡ true → y ≡ x
-elem-one x y h = ⊎-elim (eq-of-eqb y x) (λ e. absurd (false≢true e)) (or-true (eqb y x) false h)
-
-all-in : (xs ys : List ℕ) → AllIn xs ys → (x : ℕ) → elem x xs ≡ true → elem x ys ≡ true
-all-in [] ys h x e = absurd (false≢true e)
-all-in (y ∷ xs) ys h x e =
-    ⊎-elim (λ p. subst (λ (z : ℕ). elem z ys ≡ true) (eq-of-eqb y x p) (h .0)) (all-in xs ys (h .1) x) (or-true (eqb y x) (elem x xs) e)
-
+-- LISTS WITH NO NUMBER TWICE
 distinct-parts : (xs ys : List ℕ) → Distinct (xs ++ ys) → Distinct xs × Distinct ys × ((x : ℕ) → elem x xs ≡ true → elem x ys ≡ false)
 distinct-parts [] ys d = (tt, d, λ x e. absurd (false≢true e))
 distinct-parts (y ∷ xs) ys d =

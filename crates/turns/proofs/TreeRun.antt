@@ -12,6 +12,7 @@ use Rattle.theory.specs.Endings.{Said, is, outOfSteps, tooBig, Answer, says}
 use Rattle.theory.specs.Tree.{Tree, var, Rule, firstFit, step, size}
 use Rattle.theory.specs.Words.{words, Shaped, wordsOf}
 use Rattle.theory.specs.Turns.{turn, oneMore, runInRoom, lastAtTurn, lastTerm}
+use Rattle.theory.specs.Proper.{ProperRules}
 use Rattle.theory.proofs.Readability.{length-words}
 use Rattle.theory.proofs.Shape.{ShapedRules, ShapedO, step-shaped, fit-shaped}
 use Rattle.words.specs.Terms.{arityOf}
@@ -36,7 +37,7 @@ zero-parts : (ks : List ℕ) → arityOf ks 1 ≡ 0
 unfolding arityOf
 zero-parts ks = refl
 
-module _ (ks st own si oi : List ℕ) (rs : List Rule) (hs : ShapedRules (arityOf ks) rs)
+module _ (ks st own si oi : List ℕ) (rs : List Rule) (proper : ProperRules rs) (hs : ShapedRules (arityOf ks) rs)
     (found : (t : Tree) → Shaped (arityOf ks) t → (rest : List ℕ) → let f = fittingOf ks st own si oi (words t ++ rest) in Picked ks t rs (ruleOf st own f) (isFound f))
     (vars : (x : ℕ) → firstFit rs (var x) ≡ none) (room : ℕ) where
   abbrev root : Tree → Option Tree
@@ -71,6 +72,6 @@ module _ (ks st own si oi : List ℕ) (rs : List Rule) (hs : ShapedRules (arityO
 
   pub run-is : (left n : ℕ) (t : Tree) → Shaped (arityOf ks) t → run N room left n (words t) ≡ lastOf n (runInRoom root room left t) (lastTerm root room left t)
   unfolding runInRoom lastTerm
-  run-is zero n t h = ap (stop n (words t)) (next-is ks st own si oi rs found vars t h) ∙ stopped n t (step root t)
+  run-is zero n t h = ap (stop n (words t)) (next-is ks st own si oi rs proper found vars t h) ∙ stopped n t (step root t)
   run-is (suc left) n t h =
-      ap (go room n (words t) (run N room left (n + 1))) (next-is ks st own si oi rs found vars t h) ∙ went left n t (step root t) (keeps t h) (λ u k. run-is left (n + 1) u k)
+      ap (go room n (words t) (run N room left (n + 1))) (next-is ks st own si oi rs proper found vars t h) ∙ went left n t (step root t) (keeps t h) (λ u k. run-is left (n + 1) u k)

@@ -1,8 +1,9 @@
--- THE STEP: on the words of a tree, the next term is the words of the tree's step.
-use mathlib.Core.Path.{_≡_, refl, sym, ap, ap₂, _∙_}
+-- THE STEP: on the words of a tree, the next term is the words of the tree's step. The rules are proper: every variable of a right side
+-- stands on the left, so it has its part.
+use mathlib.Core.Path.{_≡_, refl, sym, ap, ap₂, subst, _∙_}
 use mathlib.Core.Bool.{Bool, true, false}
 use mathlib.Core.Option.{Option, none, some}
-use mathlib.Core.List.{List, [], _++_, append-nil}
+use mathlib.Core.List.{List, [], _∷_, _++_, append-nil}
 use Prim.Native.Nat.{ℕ, zero, suc, _+_, _-_, _≤_}
 use native.Mathlib.Nat.{zero-add}
 use native.Mathlib.Omega.{arith}
@@ -11,6 +12,7 @@ use lib.Seq.{drop-drop, take-append-seam, drop-append-seam, take-all}
 use Rattle.theory.specs.Syntax.{orElse}
 use Rattle.theory.specs.Tree.{Tree, Trees, var, node, [·], _▹_, Subst, noSubst, inst, match, Rule, filled, firstFit, active, step, size}
 use Rattle.theory.specs.Words.{words, Shaped, Shapeds, storedRule, wordsOf}
+use Rattle.theory.specs.Proper.{ProperRule, ProperRules}
 use Rattle.theory.proofs.Readability.{length-words}
 use Rattle.theory.proofs.Place.{Site, shift, rootSite, site, sitePart, Written, At, wordsO, step-written}
 use Rattle.words.specs.Terms.{arityOf}
@@ -76,8 +78,12 @@ filled-some : (r u : Tree) (o : Option Subst) → filled r o ≡ some u → (σ 
 filled-some r u none e = absurd (let z : _≡_ {A = ℕ} 0 1 = cc in omega arith)
 filled-some r u (some σ) e = (σ, (refl, cc))
 
+proper-among : (xs : List Rule) (r : Rule) (ys : List Rule) → ProperRules (xs ++ (r ∷ ys)) → ProperRule r
+proper-among [] r ys h = h .0
+proper-among (x ∷ xs) r ys h = proper-among xs r ys (h .2)
+
 -- the search finds, at each tree's words, the first of the rules that fits the tree
-module _ (ks st own si oi : List ℕ) (rs : List Rule)
+module _ (ks st own si oi : List ℕ) (rs : List Rule) (proper : ProperRules rs)
     (found : (t : Tree) → Shaped (arityOf ks) t → (rest : List ℕ) → let f = fittingOf ks st own si oi (words t ++ rest) in Picked ks t rs (ruleOf st own f) (isFound f))
     (vars : (x : ℕ) → firstFit rs (var x) ≡ none) where
   abbrev root : Tree → Option Tree
@@ -128,6 +134,7 @@ module _ (ks st own si oi : List ℕ) (rs : List Rule)
         let r = c .rule in
         let l = size (r .lhs) in
         let n = size (r .rhs) in
+        let scoped = proper-among (c .earlier) r (c .later) (subst ProperRules (c .among) proper) .scoped in
         let f = filled-some (r .rhs) (z .new) (match (r .lhs) (z .old) noSubst) (sym (c .fit) ∙ w .fits) in
         let long : length (storedRule r) ≡ 2 + (l + n) = let a = length-append (words (r .lhs)) (words (r .rhs)) in let b = length-words (r .lhs) in let d = length-words (r .rhs) in omega arith in
         let bound : List ℕ → Bound = λ left. binds ks subject left 0 (replicate 8 0) (replicate 8 0) in
@@ -139,7 +146,7 @@ module _ (ks st own si oi : List ℕ) (rs : List Rule)
         let made : new subject (b .starts) (b .ends) (words (r .rhs)) ≡ words (z .new) =
         ap (λ (x : List ℕ). new subject (bound x .starts) (bound x .ends) (words (r .rhs))) (left-is r)
         ∙ new-filled subject (bound (words (r .lhs))) (words (r .rhs))
-        ∙ filled-is ks subject (r .lhs) (z .old) (c .lhs) hz (w .behind) subject-is (f .0) (f .1 .0) (r .rhs) (c .rhs) ∙ ap words (f .1 .1) in
+        ∙ filled-is ks subject (r .lhs) (z .old) (c .lhs) hz (w .behind) subject-is (f .0) (f .1 .0) (r .rhs) (c .rhs) scoped ∙ ap words (f .1 .1) in
         ap (λ (x : List ℕ). ruled ks x ws p) (c .stored)
         ∙ ruled-is ks (storedRule r) ws p (omega arith) l n refl refl (omega arith) b refl (size (z .old)) past-it ends
         ∙ ap (λ (right : List ℕ). some (stepOf ws p e right (b .starts) (b .ends))) (right-is r)

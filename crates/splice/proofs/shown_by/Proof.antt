@@ -1,11 +1,11 @@
 -- `splice::shown_by` meets its contract: each return is a case of `shownBy`.
-use mathlib.Core.Path.{sym, ap, ap₂, subst₂, _∙_}
-use Prim.Native.Nat.{ℕ, _-_, _<_, _≤_}
+use mathlib.Core.Path.{sym, ap, ap₂, _∙_}
+use Prim.Native.Nat.{ℕ}
 use native.Mathlib.Omega.{arith}
 use lib.ListN.{getD}
 use Rattle.rules.proofs.Takes.{isVar-slot}
 use Rattle.splice.specs.declared.Shown.the-variants.{Bound}
-use Rattle.splice.proofs.Laws.{shows-itself, shows-part, shows-one}
+use Rattle.splice.proofs.Laws.{shows-itself, shows-part}
 use borrow.Author.Needs.{needs}
 use Rattle.splice.proofs.shown_by.Statement.{statement}
 use Rattle.splice.proofs.shown_by.Tie as tie
@@ -36,24 +36,14 @@ element-copy-out-e c =
 
 returns : tie.Need-returns
 returns c =
-    let d = c .before .before .before in
+    let d = c .before .before in
     let a = d .before .before .before .args in
     let v = d .word .ensures .0 in
-    let s = ap (λ (i : ℕ). getD (a .starts .now) i 0) v in
-    let e = ap (λ (i : ℕ). getD (a .ends .now) i 0) v in
-    ap₂ Bound s e ∙ shows-part (a .starts .now) (a .ends .now) (a .w) (sym (d .before .before .is-var .ensures) ∙ d .before .if1 .taken) (subst₂ (λ (x y : ℕ). x < y) s e (c .if2 .taken))
+    ap₂ Bound (ap (λ (i : ℕ). getD (a .starts .now) i 0) v) (ap (λ (i : ℕ). getD (a .ends .now) i 0) v)
+    ∙ shows-part (a .starts .now) (a .ends .now) (a .w) (sym (d .before .before .is-var .ensures) ∙ d .before .if1 .taken)
 
 returns-2 : tie.Need-returns-2
 returns-2 c =
-    let d = c .before .before .before in
-    let a = d .before .before .before .args in
-    let v = d .word .ensures .0 in
-    let s = ap (λ (i : ℕ). getD (a .starts .now) i 0) v in
-    let e = ap (λ (i : ℕ). getD (a .ends .now) i 0) v in
-    shows-one (a .starts .now) (a .ends .now) (a .w) (sym (d .before .before .is-var .ensures) ∙ d .before .if1 .taken) (subst₂ (λ (x y : ℕ). y ≤ x) s e (c .if2 .left))
-
-returns-3 : tie.Need-returns-3
-returns-3 c =
     let a = c .before .before .args in
     shows-itself (a .starts .now) (a .ends .now) (a .w) (sym (c .before .is-var .ensures) ∙ c .if1 .left)
 
@@ -69,5 +59,4 @@ shown-by-spec =
     mul-e
     element-copy-out-e
     returns
-    returns-2
-    returns-3)
+    returns-2)

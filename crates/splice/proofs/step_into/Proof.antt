@@ -4,7 +4,7 @@ use Prim.Native.Nat.{_+_, _-_, _≤_}
 use native.Mathlib.Omega.{arith}
 use lib.ListN.{length}
 use Rattle.theory.specs.Buffers.{part}
-use Rattle.splice.specs.Right.{new, Within}
+use Rattle.splice.specs.Right.{new, Parts}
 use Rattle.splice.proofs.Laws.{length-part}
 use Rattle.splice.proofs.Step.{step-big, step-room, step-fits}
 use borrow.Author.Needs.{needs}
@@ -45,7 +45,7 @@ write-right-requires : tie.Need-write-right-requires
 write-right-requires c κs =
     let start = c .before .before .before .before .before in
     let len = length-part (start .args .at) (length (start .args .term .now)) (start .args .term .now) (omega arith) in
-    (subst (Within (start .args .ends .now)) (sym len) (start .pre .1 .0), (start .pre .1 .1 .0, omega (arith, len)))
+    (subst (Parts (start .args .starts .now) (start .args .ends .now)) (sym len) (start .pre .1 .0), (start .pre .1 .1 .0, omega (arith, len)))
 
 enum-told : tie.Need-enum-told
 enum-told c = search needs

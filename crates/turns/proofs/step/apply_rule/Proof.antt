@@ -3,6 +3,7 @@ use mathlib.Core.Path.{_≡_}
 use Prim.Native.Nat.{_+_, _-_}
 use native.Mathlib.Omega.{arith}
 use lib.ListN.{length, take, drop, length-take, length-drop}
+use Rattle.rules.proofs.Ordered.{bound-ordered}
 use Rattle.splice.specs.Right.{stepOf}
 use Rattle.turns.specs.Next.{ruled}
 use Rattle.turns.proofs.Ruled.{nothing, answered, bound-inside, within-more, ruled-short, ruled-cut, ruled-over, ruled-is}
@@ -137,10 +138,11 @@ step-into-requires c κs =
     let pre = s .pre in
     let l = w1 .word .result in
     let r = w2 .word2 .result in
+    let ordered = bound-ordered (a .arities .now) (take (length (a .term .now) - a .p) (drop (a .p) (a .term .now))) (take (2 + l - 2) (drop 2 (a .rule .now))) (b .bind .result) (b .bind .ensures) in
     let n : length (take (length (a .term .now) - a .p) (drop (a .p) (a .term .now))) ≡ length (a .term .now) - a .p = simp (length-take, length-drop) (omega arith) in
     let inside = bound-inside (a .arities .now) (take (length (a .term .now) - a .p) (drop (a .p) (a .term .now))) (take (2 + l - 2) (drop 2 (a .rule .now))) (b .bind .result) (length (a .term .now) - a .p) (b .bind .ensures) n in (
       omega (arith, pre, i3 .if3 .left),
-      (inside, (simp (length-take, length-drop) (omega (arith, w2 .word2 .ensures .1)), omega (arith, pre))),
+      (record { within = inside; ordered = ordered }, (simp (length-take, length-drop) (omega (arith, w2 .word2 .ensures .1)), omega (arith, pre))),
     )
 
 made-by-requires : tie.Need-made-by-requires
