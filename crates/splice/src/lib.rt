@@ -130,13 +130,13 @@ fn put_around(second: &mut [u16], term: &[u16], at: usize, end: usize, next: usi
 
 // Makes the next term in the second buffer, within the room: the term with the words at..end replaced by what the right side
 // comes to. Where that does not fit, nothing is written.
-pub fn step_into(
+pub fn step_into<'a>(
     term: &[u16],
     at: usize,
     end: usize,
     right: &[u16],
-    starts: &[usize; 8],
-    ends: &[usize; 8],
+    starts: &'a [usize; 8],
+    ends: &'a [usize; 8],
     second: &mut [u16],
     room: usize,
 ) -> Written

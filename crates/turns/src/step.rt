@@ -84,13 +84,11 @@ fn apply_rule(
         return Next::Nothing;
     }
     let b = bind(arities, &rule[2..from], &term[p..]);
-    let starts = b.starts;
-    let ends = b.ends;
-    let e = p + left_end(&rule[2..from], &ends, term.len());
+    let e = p + left_end(&rule[2..from], &b.ends, term.len());
     if term.len() < e {
         return Next::Nothing;
     }
-    made_by(step_into(term, p, e, &rule[from..to], &starts, &ends, second, room))
+    made_by(step_into(term, p, e, &rule[from..to], &b.starts, &b.ends, second, room))
 }
 
 // A step's answer, and the number of the rewritten place on the path.

@@ -78,7 +78,7 @@ part-left-end-end c = search needs
 
 left-end-requires : tie.Need-left-end-requires
 left-end-requires c κs =
-    let b = c .before .before .before .before in
+    let b = c .before .before .before in
     let d = b .before .before .before in
     let w2 = d .before in
     let w1 = w2 .before .before in
@@ -100,7 +100,7 @@ add-e c = search needs
 returns-3 : tie.Need-returns-3
 returns-3 c =
     let le = c .before in
-    let b = le .before .before .before .before .before in
+    let b = le .before .before .before .before in
     let d = b .before .before .before in
     let w2 = d .before in
     let w1 = w2 .before .before in
@@ -126,9 +126,9 @@ part-step-into-end c = search needs
 
 step-into-requires : tie.Need-step-into-requires
 step-into-requires c κs =
-    let i3 = c .before .before .before .before in
+    let i3 = c .before .before .before .before .before in
     let le = i3 .before in
-    let b = le .before .before .before .before .before in
+    let b = le .before .before .before .before in
     let d = b .before .before .before in
     let w2 = d .before in
     let w1 = w2 .before .before in
@@ -154,9 +154,9 @@ same-length c = search needs
 returns-4 : tie.Need-returns-4
 returns-4 c =
     let made = c .before .before .before in
-    let i3 = made .before .before .before .before .before in
+    let i3 = made .before .before .before .before .before .before in
     let le = i3 .before in
-    let b = le .before .before .before .before .before in
+    let b = le .before .before .before .before in
     let d = b .before .before .before in
     let w2 = d .before in
     let w1 = w2 .before .before in
