@@ -1,5 +1,5 @@
 # Prints the figures of one part (-v part=table, terms or rules) as a table. A line of figures: ROW ENGINE ENDING STEPS SECONDS STACK.
-# peers=no: the reference and Maude were not run.
+# reference=no: it was not run, and what was run ran under an emulator; maude empty: it was not run either.
 {
     if (!($1 in seen) && $1 !~ /\/0$/) { seen[$1] = 1; rows[++n] = $1 }
     steps[$1, $2] = $4; bytes[$1, $2] = $6
@@ -87,7 +87,8 @@ function rules(    i, r, form) {
 }
 
 END {
-    if (peers == "no") print "On Arm our programs run under an emulator. The reference and Maude would not: they are skipped."
+    if (reference == "no") print "On Arm all programs run as x86-64 programs under the same emulator. The reference is skipped" \
+        (maude == "" ? ", and so is Maude: MAUDE_ROOT is not set." : ".")
     if (part == "table") table()
     if (part == "terms") terms()
     if (part == "rules") rules()
