@@ -129,18 +129,17 @@ module _ (ws : List ℕ) (p : ℕ) where
   unfolding succsEnd
   succs-next h e = rw (drop-next ws p h, eqb-true _ _ e)
 
--- one word more of a run, and none that is another
-pub succs-more : (ws : List ℕ) (at j others : ℕ) → at + j < length ws
-    → (others ≡ 0 → succsEnd (drop at ws) at ≡ succsEnd (drop (at + j) ws) (at + j))
-    → (r : ℕ) → r ≡ pick (eqb (getD ws (at + j) 0) 2) 0 1 → others + r ≡ 0 → succsEnd (drop at ws) at ≡ succsEnd (drop (at + (j + 1)) ws) (at + (j + 1))
-succs-more ws at j others h so r e z =
-    let e2 : getD ws (at + j) 0 ≡ 2 = eq-of-eqb _ 2 (go (eqb (getD ws (at + j) 0) 2) (sym e ∙ (let y : r ≡ 0 = omega arith in y))) in
-    let n : at + j + 1 ≡ at + (j + 1) = omega arith in
-    so (omega arith) ∙ succs-next ws (at + j) h e2 ∙ ap (λ (k : ℕ). succsEnd (drop k ws) k) n
+-- one word more of a run
+pub succs-more : (ws : List ℕ) (at j : ℕ) (all : Bool) → at + j < length ws
+    → (all ≡ true → succsEnd (drop at ws) at ≡ succsEnd (drop (at + j) ws) (at + j))
+    → (r : Bool) → r ≡ pick (eqb (getD ws (at + j) 0) 2) all false → r ≡ true → succsEnd (drop at ws) at ≡ succsEnd (drop (at + (j + 1)) ws) (at + (j + 1))
+succs-more ws at j all h so r e t = go (eqb (getD ws (at + j) 0) 2) refl (sym e ∙ t)
   where
-    go : (b : Bool) → _≡_ {A = ℕ} (pick b 0 1) 0 → b ≡ true
-    go true e = refl
-    go false e = absurd (omega arith)
+    go : (b : Bool) → eqb (getD ws (at + j) 0) 2 ≡ b → pick b all false ≡ true → succsEnd (drop at ws) at ≡ succsEnd (drop (at + (j + 1)) ws) (at + (j + 1))
+    go true q k =
+        let n : at + j + 1 ≡ at + (j + 1) = omega arith in
+        so k ∙ succs-next ws (at + j) h (eq-of-eqb _ 2 q) ∙ ap (λ (i : ℕ). succsEnd (drop i ws) i) n
+    go false q k = absurd (let z : _≡_ {A = ℕ} 0 1 = cc in omega arith)
 
 module _ (ks ws : List ℕ) where
   -- with n terms still to come, a word pays for one of them and adds its own parts

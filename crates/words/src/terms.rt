@@ -1,6 +1,6 @@
 // Where terms and their parts stand among words. The words of a term are its root's word and then the words of its parts.
 ghost use mathlib.Core.Path.{_≡_};
-ghost use mathlib.Core.Bool.{true};
+ghost use mathlib.Core.Bool.{true, false};
 ghost use Prim.Native.Nat.{_+_, _≤_};
 ghost use lib.Dec.{eqb};
 ghost use lib.ListN.{length, drop};
@@ -34,12 +34,11 @@ pub enum Reach {
     Short,
 }
 
-// 0 for succ's word, 1 for any other.
-fn other(w: u16) -> u16
-    ensures { λ r. ⌜ r ≡ pick (eqb w 2) 0 1 ⌝ }
-    ensures small { λ r. ⌜ r ≤ 1 ⌝ }
+// Whether all words up to here, and w, are succ's.
+fn still(all: bool, w: u16) -> bool
+    ensures { λ r. ⌜ r ≡ pick (eqb w 2) all false ⌝ }
 {
-    if w == 2 { 0 } else { 1 }
+    if w == 2 { all } else { false }
 }
 
 // Whether the 32 words from `at` on are succ's. All of them are looked at: they can be compared side by side.
@@ -47,13 +46,13 @@ fn are_succs(words: &[u16], at: usize) -> bool
     requires { ⌜ at + 32 ≤ length (now words) ⌝ }
     ensures { λ r. ⌜ (r ≡ true → succsEnd (drop at (now (words .entry))) at ≡ succsEnd (drop (at + 32) (now (words .entry))) (at + 32)) ⌝ }
 {
-    let mut others = 0u16;
+    let mut all = true;
     let mut j = 0;
     while j < 32 {
-        others += other(words[at + j]);
+        all = still(all, words[at + j]);
         j += 1;
     }
-    others == 0
+    all
 }
 
 // A place as far as which, from `at` on, there are only succ's: long runs are passed 32 words at a time.
