@@ -2,7 +2,7 @@
  * in one `red`, so that the time that Maude reports is more than its clock's tick. For N given as "auto" the row's question is asked
  * so often that it takes some millions of steps. Our rewriter says beforehand what the count must be:
  *     asks N MAUDE-FILE < lines      writes the text, and on standard output a line: QUESTIONS DOUBLINGS STEPS */
-#include "../hosts/maude/cases.h"
+#include "../hosts/cases.h"
 #include "../hosts/maude/module.h"
 #include "puffinest.h"
 

@@ -3,7 +3,7 @@
  * STEPS and SECONDS are those of one pass through the row's lines (cpu time), STACK the bytes of stack.
  * `bench evaluator` and `bench rewriter` time one engine alone; `bench copy` a plain copy of as many words as the row's name ends in. */
 #define _GNU_SOURCE
-#include "../hosts/maude/cases.h"
+#include "../hosts/cases.h"
 #include "puffinest.h"
 
 #include <pthread.h>

@@ -3,7 +3,7 @@
  *     judge compare EXPECTED < maude's output     compares the rewrites and the normal form of each answer with those
  * Only cases that are not refused and end (value, exception, stuck) are asked: Maude knows no allowances. */
 #define _GNU_SOURCE
-#include "cases.h"
+#include "../cases.h"
 #include "module.h"
 #include "puffinest.h"
 
