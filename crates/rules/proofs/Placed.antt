@@ -1,12 +1,16 @@
 -- The first rule that fits among those of a root: what the code's calls give, and that it lies within its list.
-use mathlib.Core.Path.{_≡_, sym, ap, ap₂, subst, _∙_}
+use mathlib.Core.Path.{_≡_, refl, sym, ap, ap₂, subst, _∙_}
+use mathlib.Core.Bool.{Bool, true, false}
 use mathlib.Core.List.{List}
-use Prim.Native.Nat.{ℕ, _+_, _-_, _≤_}
+use Prim.Native.Nat.{ℕ, _+_, _-_, _*_, _≤_}
 use native.Mathlib.Omega.{arith}
-use lib.ListN.{length, getD, drop, length-drop}
+use lib.Dec.{ltb}
+use lib.ListN.{length, getD, take, drop, length-drop}
 use lib.Seq.{length-take-le}
-use Rattle.rules.specs.Index.{indexOf, spanOf, partIn}
-use Rattle.rules.specs.Finding.{firstFit, moved, firstIn, firstAt, standingFirst, fittingOf}
+use borrow.Author.Tests.{ltb-false}
+use Rattle.theory.specs.Syntax.{pick}
+use Rattle.rules.specs.Index.{slotOf, indexOf, leastOf, spanOf, partIn}
+use Rattle.rules.specs.Finding.{firstFrom, firstFit, moved, firstIn, firstAt, standingFirst, fittingOf}
 use Rattle.rules.specs.declared.index.Span.{Span}
 use Rattle.rules.specs.declared.finding.Place.{Place}
 use Rattle.rules.specs.declared.finding.Place.the-variants.{Nowhere, Stored}
@@ -20,6 +24,23 @@ module _ (ks list : List ℕ) (index ss : List ℕ) where
   unfolding firstAt firstIn
   first-is {w} {s} {p} {q} ew es ep eq =
       ap (moved (s .from)) (sym eq ∙ ep) ∙ ap (λ (x : Span). firstIn ks list x ss) (es ∙ ap (spanOf index (length list)) ew)
+
+  -- where the index has no rules of the root, none fits
+  pub first-none : {w : ℕ} → w ≡ getD ss 0 0 → ltb 0 (getD index (2 * slotOf w + 1) 0) ≡ false → Nowhere ≡ firstAt ks list index ss
+  unfolding firstAt firstIn spanOf leastOf firstFrom
+  first-none {w} ew e =
+      let s : Span = spanOf index (length list) w in
+      let z : getD index (2 * slotOf w + 1) 0 ≡ 0 = let h = ltb-false 0 (getD index (2 * slotOf w + 1) 0) e in omega arith in
+      let none : s .to - s .from ≡ 0 = ends (getD index (2 * slotOf w + 1) 0) z (s .from) in
+      ap (λ (n : ℕ). moved (s .from) (firstFit ks (take n (drop (s .from) list)) ss)) (sym none)
+      ∙ ap (λ (v : ℕ). firstIn ks list (spanOf index (length list) v) ss) ew
+    where
+      ends : (e : ℕ) → e ≡ 0 → (from : ℕ) → leastOf e (length list) - from ≡ 0
+      ends e z from = go (ltb e (length list)) refl
+        where
+          go : (b : Bool) → ltb e (length list) ≡ b → pick b e (length list) - from ≡ 0
+          go true t = omega arith
+          go false t = let h = ltb-false e (length list) t in omega arith
 
   -- a part has as many words as its span says
   part-length : (s : Span) → s .from ≤ s .to → s .to ≤ length list → length (partIn list s) ≡ s .to - s .from

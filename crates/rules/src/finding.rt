@@ -1,4 +1,5 @@
 // The rule that fits a term: the rules of its root in two stored lists are tried in turn, standing before own.
+use crate::index::has_rules;
 use crate::index::span_of;
 use crate::index::word_at;
 use crate::matching::does_fit;
@@ -62,7 +63,7 @@ pub fn first_at(arities: &[u8], list: &[u16], index: &[usize], subject: &[u16]) 
     }
 }
 
-// Where the rule that fits stands.
+// Where the rule that fits stands. Most roots have rules in one list only: the other is not searched.
 pub fn find_place(
     arities: &[u8],
     standing: &[u16],
@@ -73,12 +74,23 @@ pub fn find_place(
 ) -> Fitting
     ensures { λ r. ⌜ r ≡ fittingOf (now (arities .entry)) (now (standing .entry)) (now (own .entry)) (now («standing_index» .entry)) (now («own_index» .entry)) (now (subject .entry)) ⌝ }
 {
-    match first_at(arities, standing, standing_index, subject) {
-        Place::Stored { at, len } => Fitting::Standing { at, len },
-        Place::Nowhere => match first_at(arities, own, own_index, subject) {
-            Place::Stored { at, len } => Fitting::Own { at, len },
-            Place::Nowhere => Fitting::Nowhere,
-        },
+    let w = word_at(subject, 0);
+    let in_standing = if has_rules(standing_index, w) {
+        first_at(arities, standing, standing_index, subject)
+    } else {
+        Place::Nowhere
+    };
+    if let Place::Stored { at, len } = in_standing {
+        return Fitting::Standing { at, len };
+    }
+    let in_own = if has_rules(own_index, w) {
+        first_at(arities, own, own_index, subject)
+    } else {
+        Place::Nowhere
+    };
+    match in_own {
+        Place::Stored { at, len } => Fitting::Own { at, len },
+        Place::Nowhere => Fitting::Nowhere,
     }
 }
 

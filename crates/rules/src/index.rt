@@ -2,7 +2,8 @@
 // For slot s, word 2s is the place of the first rule whose root has that slot, word 2s + 1 the place past the last; both 0 where there is none.
 use crate::matching::word;
 ghost use mathlib.Core.Path.{_≡_};
-ghost use Prim.Native.Nat.{_≤_};
+ghost use Prim.Native.Nat.{_+_, _*_, _≤_};
+ghost use lib.Dec.{ltb};
 ghost use lib.ListN.{getD};
 ghost use Rattle.rules.specs.Index.{slotOf, startOf, leastOf, indexOf, spanOf};
 
@@ -69,6 +70,13 @@ pub fn index_of(list: &[u16]) -> [usize; 802]
         at = past;
     }
     index
+}
+
+// Whether there are rules with the root w.
+pub fn has_rules(index: &[usize], w: u16) -> bool
+    ensures { λ r. ⌜ r ≡ ltb 0 (getD (now (index .entry)) (2 * slotOf w + 1) 0) ⌝ }
+{
+    0 < number_at(index, 2 * slot_of(w) + 1)
 }
 
 // A part of a list: from one place to another.

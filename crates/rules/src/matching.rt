@@ -69,8 +69,10 @@ pub fn does_fit(arities: &[u8], left: &[u16], subject: &[u16]) -> bool
 pub fn bind(arities: &[u8], left: &[u16], subject: &[u16]) -> Bound
     ensures { λ r. ⌜ r ≡ binds (now (arities .entry)) (now (subject .entry)) (now (left .entry)) 0 (replicate 8 0) (replicate 8 0) ⌝ }
 {
-    let mut starts = [0usize; 8];
-    let mut ends = [0usize; 8];
+    let mut b = Bound {
+        starts: [0usize; 8],
+        ends: [0usize; 8],
+    };
     let mut i = 0;
     let mut j = 0;
     while i < left.len() {
@@ -79,16 +81,16 @@ pub fn bind(arities: &[u8], left: &[u16], subject: &[u16]) -> Bound
             Reach::End(e) => {
                 if is_var(p) {
                     let v = word(p - 64);
-                    starts[v] = j;
-                    ends[v] = e;
+                    b.starts[v] = j;
+                    b.ends[v] = e;
                 }
                 j = e;
             }
             Reach::Short => {
-                return Bound { starts, ends };
+                return b;
             }
         }
         i += 1;
     }
-    Bound { starts, ends }
+    b
 }

@@ -41,33 +41,33 @@ fn still(all: bool, w: u16) -> bool
     if w == 2 { all } else { false }
 }
 
-// Whether the 32 words from `at` on are succ's. All of them are looked at: they can be compared side by side.
+// Whether the 16 words from `at` on are succ's. All of them are looked at: they can be compared side by side.
 fn are_succs(words: &[u16], at: usize) -> bool
-    requires { ⌜ at + 32 ≤ length (now words) ⌝ }
-    ensures { λ r. ⌜ (r ≡ true → succsEnd (drop at (now (words .entry))) at ≡ succsEnd (drop (at + 32) (now (words .entry))) (at + 32)) ⌝ }
+    requires { ⌜ at + 16 ≤ length (now words) ⌝ }
+    ensures { λ r. ⌜ (r ≡ true → succsEnd (drop at (now (words .entry))) at ≡ succsEnd (drop (at + 16) (now (words .entry))) (at + 16)) ⌝ }
 {
     let mut all = true;
     let mut j = 0;
-    while j < 32 {
+    while j < 16 {
         all = still(all, words[at + j]);
         j += 1;
     }
     all
 }
 
-// A place as far as which, from `at` on, there are only succ's: long runs are passed 32 words at a time.
+// A place as far as which, from `at` on, there are only succ's: long runs are passed 16 words at a time.
 fn blocks_end(words: &[u16], at: usize) -> usize
     ensures { λ r. ⌜ succsEnd (drop at (now (words .entry))) at ≡ succsEnd (drop r (now (words .entry))) r ⌝ }
 {
     let mut i = at;
     while i < words.len() {
-        if words.len() - i < 32 {
+        if words.len() - i < 16 {
             return i;
         }
         if !are_succs(words, i) {
             return i;
         }
-        i += 32;
+        i += 16;
     }
     i
 }

@@ -1,52 +1,81 @@
--- `finding::find_place` meets its contract.
-use Rattle.rules.proofs.Placed.{found-in-standing, found-in-own}
+-- `finding::find_place` meets its contract: a list that has no rules of the root has none that fits.
+use mathlib.Core.Path.{sym, _∙_}
+use mathlib.Core.Logic.{⊎-elim}
+use Rattle.rules.proofs.Placed.{first-none, found-in-standing, found-in-own}
 use borrow.Author.Needs.{needs}
 use Rattle.rules.proofs.finding.find_place.Statement.{statement}
 use Rattle.rules.proofs.finding.find_place.Tie as tie
 
+word-at-requires : tie.Need-word-at-requires
+word-at-requires c κs = search needs
+
+has-rules-requires : tie.Need-has-rules-requires
+has-rules-requires c κs = search needs
+
 first-at-requires : tie.Need-first-at-requires
 first-at-requires c κs = search needs
 
-enum-known-at : tie.Need-enum-known-at
-enum-known-at c = search needs
+enum-known-in-standing : tie.Need-enum-known-in-standing
+enum-known-in-standing c = search needs
+
+returns : tie.Need-returns
+returns c =
+    let j = c .before .before .before in
+    let a = j .before .before .before .before .before .before .before .before .before .args in
+    found-in-standing (a .arities .now) (a .standing .now) (a .own .now) (a .standing-index .now) (a .own-index .now) (a .subject .now)
+    (⊎-elim (λ w. w .2 ∙ w .1 .ensures) (λ w. w .1 ∙ first-none (a .arities .now) (a .standing .now) (a .standing-index .now) (a .subject .now) (j .before .before .word-at .ensures) (sym (j .before .has-rules .ensures) ∙ w .0 .left)) (j .if1 .came))
+    (c .before .in-standing .given .1)
 
 enum-told : tie.Need-enum-told
 enum-told c = search needs
 
+has-rules-requires-2 : tie.Need-has-rules-requires-2
+has-rules-requires-2 c κs = search needs
+
 first-at-requires-2 : tie.Need-first-at-requires-2
 first-at-requires-2 c κs = search needs
 
-enum-known-at-2 : tie.Need-enum-known-at-2
-enum-known-at-2 c = search needs
+enum-known-in-own : tie.Need-enum-known-in-own
+enum-known-in-own c = search needs
 
 enum-told-2 : tie.Need-enum-told-2
 enum-told-2 c = search needs
 
-returns : tie.Need-returns
-returns c =
-    let a = c .before .before .before .before .before .before .before .before .before .before .args in
-    found-in-standing (a .arities .now) (a .standing .now) (a .own .now) (a .standing-index .now) (a .own-index .now) (a .subject .now) (c .before .before .before .first-at .ensures) (c .before .at .given .1)
-
 returns-2 : tie.Need-returns-2
 returns-2 c =
-    let a = c .before .before .before .before .before .before .before .before .before .before .before .before .before .args in
-    found-in-own (a .arities .now) (a .standing .now) (a .own .now) (a .standing-index .now) (a .own-index .now) (a .subject .now) (c .before .before .before .before .before .before .first-at .ensures) (c .before .before .before .before .enum-told .given .1) (c .before .before .before .first-at2 .ensures) (c .before .at2 .given .1)
+    let k = c .before .before .before in
+    let j = k .before .before .before .before in
+    let a = j .before .before .before .before .before .before .before .before .before .args in
+    found-in-own (a .arities .now) (a .standing .now) (a .own .now) (a .standing-index .now) (a .own-index .now) (a .subject .now)
+    (⊎-elim (λ w. w .2 ∙ w .1 .ensures) (λ w. w .1 ∙ first-none (a .arities .now) (a .standing .now) (a .standing-index .now) (a .subject .now) (j .before .before .word-at .ensures) (sym (j .before .has-rules .ensures) ∙ w .0 .left)) (j .if1 .came))
+    (k .before .before .enum-told .given .1)
+    (⊎-elim (λ w. w .2 ∙ w .1 .ensures) (λ w. w .1 ∙ first-none (a .arities .now) (a .own .now) (a .own-index .now) (a .subject .now) (j .before .before .word-at .ensures) (sym (k .before .has-rules2 .ensures) ∙ w .0 .left)) (k .if2 .came))
+    (c .before .in-own .given .1)
 
 returns-3 : tie.Need-returns-3
 returns-3 c =
-    let a = c .before .before .before .before .before .before .before .before .before .before .before .before .args in
-    found-in-own (a .arities .now) (a .standing .now) (a .own .now) (a .standing-index .now) (a .own-index .now) (a .subject .now) (c .before .before .before .before .before .first-at .ensures) (c .before .before .before .enum-told .given .1) (c .before .before .first-at2 .ensures) (c .enum-told2 .given .1)
+    let k = c .before .before in
+    let j = k .before .before .before .before in
+    let a = j .before .before .before .before .before .before .before .before .before .args in
+    found-in-own (a .arities .now) (a .standing .now) (a .own .now) (a .standing-index .now) (a .own-index .now) (a .subject .now)
+    (⊎-elim (λ w. w .2 ∙ w .1 .ensures) (λ w. w .1 ∙ first-none (a .arities .now) (a .standing .now) (a .standing-index .now) (a .subject .now) (j .before .before .word-at .ensures) (sym (j .before .has-rules .ensures) ∙ w .0 .left)) (j .if1 .came))
+    (k .before .before .enum-told .given .1)
+    (⊎-elim (λ w. w .2 ∙ w .1 .ensures) (λ w. w .1 ∙ first-none (a .arities .now) (a .own .now) (a .own-index .now) (a .subject .now) (j .before .before .word-at .ensures) (sym (k .before .has-rules2 .ensures) ∙ w .0 .left)) (k .if2 .came))
+    (c .enum-told2 .given .1)
 
 pub find-place-spec : {M : Type 1} → statement M
 find-place-spec =
     tie.close
     (tie.spec
+    word-at-requires
+    has-rules-requires
     first-at-requires
-    enum-known-at
-    enum-told
-    first-at-requires-2
-    enum-known-at-2
-    enum-told-2
+    enum-known-in-standing
     returns
+    enum-told
+    has-rules-requires-2
+    first-at-requires-2
+    enum-known-in-own
+    enum-told-2
     returns-2
     returns-3)

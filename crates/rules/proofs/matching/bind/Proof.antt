@@ -1,22 +1,23 @@
 -- `matching::bind` meets its contract. The invariant: what is left of the left side fills the slots as the whole does.
-use mathlib.Core.Path.{_≡_, refl, sym, ap, _∙_}
+use mathlib.Core.Path.{_≡_, refl, sym, ap, ap₂, _∙_}
 use mathlib.Core.Logic.{⊎-elim}
-use Prim.Native.Nat.{_-_, _≤_}
+use Prim.Native.Nat.{ℕ, _+_, _-_, _≤_}
 use native.Mathlib.Omega.{arith}
-use lib.ListN.{length, drop, getD, replicate, length-set}
+use lib.ListN.{length, drop, getD, set, replicate, length-set}
 use Rattle.rules.specs.Matching.{binds}
+use Rattle.rules.specs.declared.matching.Bound.{Bound}
 use Rattle.rules.proofs.Takes.{isVar-slot, binds-end, binds-stop, binds-var, binds-plain}
 use borrow.Author.Needs.{needs}
 use Rattle.rules.proofs.matching.bind.Statement.{statement}
 use Rattle.rules.proofs.matching.bind.Tie as tie
 
 abbrev Inv-loop : tie.InvT-loop
-Inv-loop arities left subject starts₀ ends₀ i₀ j₀ starts ends i j =
-    (i ≤ length left) × (length starts ≡ 8) × (length ends ≡ 8)
-    × (binds arities subject left 0 (replicate 8 0) (replicate 8 0) ≡ binds arities subject (drop i left) j starts ends)
+Inv-loop arities left subject b₀ i₀ j₀ b i j =
+    (i ≤ length left) × (length (b .starts) ≡ 8) × (length (b .ends) ≡ 8)
+    × (binds arities subject left 0 (replicate 8 0) (replicate 8 0) ≡ binds arities subject (drop i left) j (b .starts) (b .ends))
 
 abbrev μ-loop : tie.MeasureT-loop
-μ-loop arities left subject starts₀ ends₀ i₀ j₀ starts ends i j = length left - i
+μ-loop arities left subject b₀ i₀ j₀ b i j = length left - i
 
 loop-holds : tie.Need-loop-holds Inv-loop μ-loop
 loop-holds c = (omega arith, refl, refl, refl)
@@ -42,20 +43,20 @@ sub-word c = isVar-slot _ (sym (c .before .is-var .ensures) ∙ c .if1 .taken) .
 word-requires : tie.Need-word-requires Inv-loop μ-loop
 word-requires c κs = search needs
 
-mul-starts : tie.Need-mul-starts Inv-loop μ-loop
-mul-starts c = search needs
+mul-b : tie.Need-mul-b Inv-loop μ-loop
+mul-b c = search needs
 
-array-write-starts : tie.Need-array-write-starts Inv-loop μ-loop
-array-write-starts c =
+element-write-b : tie.Need-element-write-b Inv-loop μ-loop
+element-write-b c =
     let at = c .before .before .before .before .before .before .before .before .before in
     let w = getD (at .before .before .before .before .args .left .now) (at .loop .i) 0 in
     omega (arith, c .word .ensures .0, isVar-slot w (sym (c .before .before .is-var .ensures) ∙ c .before .if1 .taken))
 
-mul-ends : tie.Need-mul-ends Inv-loop μ-loop
-mul-ends c = search needs
+mul-b-2 : tie.Need-mul-b-2 Inv-loop μ-loop
+mul-b-2 c = search needs
 
-array-write-ends : tie.Need-array-write-ends Inv-loop μ-loop
-array-write-ends c =
+element-write-b-2 : tie.Need-element-write-b-2 Inv-loop μ-loop
+element-write-b-2 c =
     let at = c .before .before .before .before .before .before .before .before .before in
     let w = getD (at .before .before .before .before .args .left .now) (at .loop .i) 0 in
     omega (arith, c .word .ensures .0, isVar-slot w (sym (c .before .before .is-var .ensures) ∙ c .before .if1 .taken))
@@ -82,14 +83,15 @@ loop-again c =
     let e = c .before .before .before .e .given .0 .0 in
     let q = sym (c .before .before .before .before .before .take-word .ensures) ∙ c .before .before .before .e .given .1 in (
       omega arith,
-      ⊎-elim (λ w. ap length (w .2) ∙ simp length-set (l .inv .1)) (λ w. ap length (w .1) ∙ l .inv .1) (c .if1 .came),
-      ⊎-elim (λ w. ap length (w .3) ∙ simp length-set (l .inv .2)) (λ w. ap length (w .2) ∙ l .inv .2) (c .if1 .came),
+      ⊎-elim (λ w. ap (λ (b : Bound). length (b .starts)) (w .2) ∙ simp length-set (l .inv .1)) (λ w. ap (λ (b : Bound). length (b .starts)) (w .1) ∙ l .inv .1) (c .if1 .came),
+      ⊎-elim (λ w. ap (λ (b : Bound). length (b .ends)) (w .2) ∙ simp length-set (l .inv .2)) (λ w. ap (λ (b : Bound). length (b .ends)) (w .1) ∙ l .inv .2) (c .if1 .came),
       l .inv .3
           ∙ ⊎-elim
-          (λ w. binds-var (a .arities .now) (a .subject .now) (a .left .now) (l .i) (l .j) (omega arith) (l .starts) (l .ends) e (sym (c .before .is-var .ensures) ∙ w .0 .taken) q
-          ∙ cc (w .1 .ensures .0, w .2, w .3, w .4))
-          (λ w. binds-plain (a .arities .now) (a .subject .now) (a .left .now) (l .i) (l .j) (omega arith) (l .starts) (l .ends) e (sym (c .before .is-var .ensures) ∙ w .0 .left) q
-          ∙ cc (w .1, w .2, w .3))
+          (λ w. binds-var (a .arities .now) (a .subject .now) (a .left .now) (l .i) (l .j) (omega arith) (l .b .starts) (l .b .ends) e (sym (c .before .is-var .ensures) ∙ w .0 .taken) q
+          ∙ ap (λ (v : ℕ). binds (a .arities .now) (a .subject .now) (drop (l .i + 1) (a .left .now)) e (set (l .b .starts) v (l .j)) (set (l .b .ends) v e)) (sym (w .1 .ensures .0))
+          ∙ sym (ap₂ (λ (b : Bound) (j : ℕ). binds (a .arities .now) (a .subject .now) (drop (l .i + 1) (a .left .now)) j (b .starts) (b .ends)) (w .2) (w .3)))
+          (λ w. binds-plain (a .arities .now) (a .subject .now) (a .left .now) (l .i) (l .j) (omega arith) (l .b .starts) (l .b .ends) e (sym (c .before .is-var .ensures) ∙ w .0 .left) q
+          ∙ cc (w .1, w .2))
           (c .if1 .came),
     )
 
@@ -110,10 +112,10 @@ bind-spec =
     is-var-requires
     sub-word
     word-requires
-    mul-starts
-    array-write-starts
-    mul-ends
-    array-write-ends
+    mul-b
+    element-write-b
+    mul-b-2
+    element-write-b-2
     enum-told
     returns
     add-i

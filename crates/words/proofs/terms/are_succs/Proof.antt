@@ -13,10 +13,10 @@ use Rattle.words.proofs.terms.are_succs.Tie as tie
 
 abbrev Inv-loop : tie.InvT-loop
 Inv-loop words at all₀ j₀ all j =
-    (j ≤ 32) × (all ≡ true → succsEnd (drop at words) at ≡ succsEnd (drop (at + j) words) (at + j))
+    (j ≤ 16) × (all ≡ true → succsEnd (drop at words) at ≡ succsEnd (drop (at + j) words) (at + j))
 
 abbrev μ-loop : tie.MeasureT-loop
-μ-loop words at all₀ j₀ all j = 32 - j
+μ-loop words at all₀ j₀ all j = 16 - j
 
 loop-holds : tie.Need-loop-holds Inv-loop μ-loop
 loop-holds c =
@@ -51,7 +51,7 @@ returns : tie.Need-returns Inv-loop μ-loop
 returns c =
     let at = c .before in
     let a = at .before .before .args in
-    let end : at .loop .j ≡ 32 = omega arith in
+    let end : at .loop .j ≡ 16 = omega arith in
     λ t. at .loop .inv .1 t ∙ ap (λ (j : ℕ). succsEnd (drop (a .at + j) (a .words .now)) (a .at + j)) end
 
 pub are-succs-spec : {M : Type 1} → statement M
