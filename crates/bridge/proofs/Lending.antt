@@ -22,7 +22,7 @@ use Rattle.bridge.specs.declared.lend.Written.{Written}
 use Rattle.bridge.specs.declared.lend.Written.the-variants.{Count, Short}
 use Rattle.bridge.specs.Written.{writtenIn, filledIn}
 use Rattle.bridge.specs.Accepted.{Checks, Accepts, Asks, ownWords, questionWords, standingWords, Lent}
-use Rattle.bridge.proofs.Arities.{table-is}
+use Rattle.checker.proofs.Table.{table-is}
 
 -- how many words they are
 own-short-enough : (p : List ℕ) (c : Checked) (a : Checks p c) → length (ownWords (a .book)) ≤ 15504

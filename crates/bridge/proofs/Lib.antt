@@ -1,6 +1,5 @@
 -- Laws by subject. Calls has those about the public calls' own answers; TranslatorWords, EvaluatorAnswers and RewriterAnswers cite the
 -- crates below that write the words and run.
-mod Arities
 mod Judging
 mod Allowing
 mod Lending

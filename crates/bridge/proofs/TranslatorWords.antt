@@ -2,48 +2,28 @@
 use Prim.Native.Nat.{ℕ, zero, suc, _-_, _≤_}
 use mathlib.Core.Path.{_≡_, refl, sym, ap, _∙_, subst}
 use mathlib.Core.Bool.{Bool, true, false}
-use mathlib.Core.List.{List, [], _∷_}
+use mathlib.Core.List.{List}
 use native.Mathlib.Omega.{arith}
 use lib.Dec.{leb}
-use lib.ListN.{length, getD, take, drop}
+use lib.ListN.{length, take, drop}
+use Rattle.checker.proofs.Table.{table-agrees, openings-used}
 use Rattle.theory.specs.Syntax.{pick}
 use Rattle.theory.specs.Words.{storedRules}
 use Rattle.theory.specs.Translation.{tree, ownList}
 use Rattle.theory.specs.Buffers.{over}
-use Rattle.theory.specs.Bytes.{good, Book, RuleAt, ruleCount, openedAt, nthArity, readProgram, programOf}
+use Rattle.theory.specs.Bytes.{good, Book, RuleAt, ruleCount, openedAt, nthArity, readProgram, programOf, Agrees}
 use Rattle.theory.proofs.Bounds.{question-fits}
 use Rattle.theory.proofs.Readability.{length-words}
 use Rattle.checker.specs.declared.Checked.{Checked}
 use Rattle.checker.specs.Answer.{checkedOf, table, padded}
 use Rattle.checker.proofs.Callers.{functions-most, rules-most, within}
 use Rattle.translator.specs.Accepted.{Accepted, Asked, OfQuestion}
-use Rattle.records.specs.Agrees.{Agrees}
 use Rattle.translator.specs.Answered.{answered, filled}
 use Rattle.translator.specs.declared.Own.{Own}
 use Rattle.translator.specs.declared.Own.the-variants as own
 use Rattle.bridge.specs.declared.lend.Written.the-variants.{Count, Short}
 use Rattle.bridge.specs.Written.{writtenIn, filledIn}
 use Rattle.bridge.specs.Accepted.{Checks, Asks, ownWords, questionWords}
-use Rattle.bridge.proofs.Arities.{table-builtin, table-declared}
-
-nth-same : (ns : List ℕ) (i : ℕ) → getD ns i 0 ≡ nthArity ns i
-nth-same [] i = refl
-nth-same (a ∷ ns) zero = refl
-nth-same (a ∷ ns) (suc i) = nth-same ns i
-
-table-agrees : (p : List ℕ) (s : Book) → readProgram p ≡ good s → Agrees (s .decls) (table (s .decls .arities))
-table-agrees p s read =
-    record {
-      builtin = λ b h. table-builtin (s .decls .arities) b (omega arith);
-      declared = λ f h. table-declared (s .decls .arities) (functions-most p s read) f ∙ nth-same (s .decls .arities) f;
-    }
-
--- the openings that are in use
-take-padded : (k : ℕ) (rs : List RuleAt) → ruleCount rs ≤ k → take (ruleCount rs) (padded k (openedAt rs)) ≡ openedAt rs
-unfolding padded
-take-padded k [] h = refl
-take-padded zero (r ∷ rs) h = absurd (omega arith)
-take-padded (suc k) (r ∷ rs) h = ap (r .opened ∷_) (take-padded k rs (omega arith))
 
 -- THE OWN LIST
 pub own-same : (s : Book) → storedRules (ownList (programOf s)) ≡ ownWords s
@@ -66,7 +46,7 @@ module _ (p : List ℕ) (c : Checked) (a : Checks p c) where
         agrees = arities-agree;
         openings-read =
             u ∙ ap (λ (n : ℕ). take n (c .openings)) z ∙ ap (λ (x : Checked). take (x .rules) (x .openings)) (a .answer)
-            ∙ take-padded 64 (s .rulesAt) (rules-most p s (a .program-read));
+            ∙ openings-used 64 (s .rulesAt) (rules-most p s (a .program-read));
         exceptions-read = ap (λ (x : Checked). x .exceptions) (a .answer);
         functions-read = ap (λ (x : Checked). x .functions) (a .answer);
       }

@@ -7,6 +7,7 @@ use native.Mathlib.Omega.{arith}
 use lib.Dec.{eqb, leb, ltb}
 use lib.ListN.{length, take, drop}
 use borrow.Author.Tests.{eqb-true}
+use Rattle.theory.proofs.Lists.{none-left}
 use Rattle.theory.specs.Syntax.{choose, Term}
 use Rattle.theory.specs.Bytes.{Result, refused, good, refuse, ifGood, RuleAt, addLast, Book, ruleCount, overlapsEarlier, refuseOverlaps, readRecords, emptyBook, readProgram, inQuestion, readSide, termsFrom, nthTerm, readQuestion}
 use Rattle.theory.specs.Bytes
@@ -95,14 +96,10 @@ ended-written : (ws : List ℕ) (t : Term) (r : Result Bytes.Side) → Wrote 1 w
 ended-written ws t (refused r) h e = let z : _≡_ {A = ℕ} 0 1 = cc in absurd (omega arith)
 ended-written ws t (good s) h e = by-rest (eqb (length (s .rest)) 0) refl e
   where
-    empty : (l : List ℕ) → length l ≡ 0 → l ≡ []
-    empty [] e = refl
-    empty (x ∷ xs) e = absurd (omega (arith, e))
-
     by-rest : (b : Bool) → eqb (length (s .rest)) 0 ≡ b → choose b (λ u. good (nthTerm (termsFrom (s .records)) 0)) (λ u. refuse 11 (s .from)) ≡ good t → ws ≡ bytesOf t
     by-rest true z e =
         let is : nthTerm (termsFrom (s .records)) 0 ≡ t = cc in
-        one-wrote ws s h ∙ ap (λ l. bytesOf (nthTerm (termsFrom (s .records)) 0) ++ l) (empty (s .rest) (eqb-true (length (s .rest)) 0 z)) ∙ unit-right (bytesOf (nthTerm (termsFrom (s .records)) 0)) ∙ ap bytesOf is
+        one-wrote ws s h ∙ ap (λ l. bytesOf (nthTerm (termsFrom (s .records)) 0) ++ l) (none-left (s .rest) (eqb-true (length (s .rest)) 0 z)) ∙ unit-right (bytesOf (nthTerm (termsFrom (s .records)) 0)) ∙ ap bytesOf is
     by-rest false z e = let z : _≡_ {A = ℕ} 0 1 = cc in absurd (omega arith)
 
 pub question-written : (n : ℕ) (ns ws : List ℕ) (t : Term) → readQuestion (declared n ns) ws ≡ good t → ws ≡ bytesOf t

@@ -3,3 +3,4 @@ pub mod Callers
 pub mod Rules
 pub mod Written
 mod Answer
+pub mod Table

@@ -6,6 +6,7 @@ use Prim.Native.Nat.{ℕ, zero, suc, _+_, _-_, _≤_, _<_}
 use native.Mathlib.Omega.{arith}
 use lib.Dec.{eqb, ltb, leb}
 use borrow.Author.Tests.{leb-true}
+use Rattle.theory.proofs.Tests.{pick-any}
 use Rattle.evaluator.specs.declared.values.Value.{Value}
 use Rattle.evaluator.specs.declared.values.Ending.{Ending}
 use Rattle.evaluator.specs.declared.values.Ending.the-variants.{Done, Raised, Stuck, Out, Deep}
@@ -25,7 +26,6 @@ use Rattle.evaluator.specs.Rows.{payOf, goOf, afterSucc, afterGuard, aft
 use Rattle.evaluator.specs.Fitting.{misfit, fitNode, fitOf, fitAt, fitsOf, ruleOf, foundIn, nextRule, foundFrom}
 use Rattle.evaluator.specs.Evaluation.{Fine, FineTurn, FineList, enterThen, enteredOf}
 use lib.ListN.{getD, set, replicate, length}
-use Rattle.evaluator.proofs.Laws.{pick-any}
 
 pub plain : (l z : ℕ) (x : Ending) (p : ℕ) → size x ≤ most + l → p ≤ z → Fine l z (answer x p)
 plain l z x p s q = record { few = s; steps = q }

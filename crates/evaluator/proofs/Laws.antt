@@ -21,10 +21,6 @@ use Rattle.evaluator.specs.Places.{kindOf, placePast}
 use Rattle.evaluator.specs.Fitting.{rulesOf}
 use Rattle.evaluator.specs.Evaluation.{node, ev}
 
-pub pick-any : {A : Type 0} (P : A → Type 0) (t : Bool) (a b : A) → P a → P b → P (pick t a b)
-pick-any P true a b h g = h
-pick-any P false a b h g = g
-
 -- inside a list, its default does not matter
 pub any-default : {A : Type 0} (xs : List A) (i : ℕ) (d e : A) → i < length xs → getD xs i d ≡ getD xs i e
 any-default [] i d e h = absurd (not-suc-le-zero h)

@@ -3,7 +3,6 @@ use mathlib.Core.Path.{_≡_, refl, sym, ap, subst, fun-ext, _∙_}
 use mathlib.Core.Bool.{Bool, true, false}
 use mathlib.Core.List.{List, [], _∷_, append-nil}
 use Prim.Native.Nat.{ℕ, zero, suc, _-_, _≤_}
-use native.Mathlib.Nat.{le-of-suc-le-suc, not-suc-le-zero}
 use native.Mathlib.Omega.{arith}
 use lib.Dec.{ltb}
 use lib.ListN.{getD, length}
@@ -16,10 +15,10 @@ use Rattle.theory.specs.Words.{words, Shaped, storedRules}
 use Rattle.theory.specs.Translation.{aux, tree, ownRules, ownList, standing}
 use Rattle.theory.specs.Bytes.{Book, RuleAt, good, funsOf, readProgram, programOf, readQuestion}
 use Rattle.theory.proofs.Shape.{parts-aux, tree-shaped}
-use Rattle.theory.proofs.Accepted.{read-on-bytes}
+use Rattle.theory.proofs.Accepted.{read-on-bytes, length-funs}
 use Rattle.words.specs.Terms.{arityOf}
 use Rattle.rules.specs.Index.{indexOf}
-use Rattle.rules.proofs.Ranges.{standing-range, own-range}
+use Rattle.rules.proofs.Ranges.{standing-range, own-range, nth-past}
 use Rattle.rules.proofs.Program.{arity-is}
 use Rattle.rules.proofs.Standing.{standing-same}
 use Rattle.evaluator.specs.Values.{nones}
@@ -31,15 +30,6 @@ use Rattle.evaluator.proofs.Chosen.{binds-none, fill-holds, FoundMeets,
 use Rattle.evaluator.proofs.Terms.{Finds, ev-term}
 
 -- a number that is no declared function's has no rules
-nth-past : (fs : List Fun) (i : ℕ) → length fs ≤ i → nthFun fs i ≡ function 0 []
-nth-past [] i h = refl
-nth-past (f ∷ fs) zero h = absurd (not-suc-le-zero h)
-nth-past (f ∷ fs) (suc i) h = nth-past fs i (le-of-suc-le-suc h)
-
-funs-length : (f : ℕ) (ns : List ℕ) (rs : List RuleAt) → length (funsOf f ns rs) ≡ length ns
-funs-length f [] rs = refl
-funs-length f (a ∷ ns) rs = ap suc (funs-length (suc f) ns rs)
-
 -- n exceptions and functions that are as they must be, and what is lent for them
 module _ (n : ℕ) (fs : List Fun) (exceptions : n ≤ 16) (functions : length fs ≤ 32) (formed : ProgramWellFormed (program n fs))
     (narrow : (k : ℕ) → NarrowDefs (funOf fs k .arity) (funOf fs k .defs)) (ks : List ℕ) (arities : (k : ℕ) → getD ks k 0 ≡ funOf fs k .arity) where
@@ -107,7 +97,7 @@ pub evaluator-on-bytes : (p q : List ℕ) (s : Book) (t : Term) → readProgram 
 evaluator-on-bytes p q s t ep eq ws stands own ks si oi hw hs ho hk hi hj levels steps =
     let r = read-on-bytes p q s t ep eq in
     let fs : List Fun = funsOf 0 (s .decls .arities) (s .rulesAt) in
-    let l = funs-length 0 (s .decls .arities) (s .rulesAt) in
+    let l = length-funs 0 (s .decls .arities) (s .rulesAt) in
     let f = r .functions in
     let e : stands ≡ storedRules (standing (funOf fs)) = hs ∙ sym (standing-same fs) in
     rw (hi, hj, e, ho, hw)

@@ -8,6 +8,7 @@ use native.Mathlib.Omega.{arith}
 use lib.Dec.{eqb}
 use lib.ListN.{length, getD, set}
 use borrow.Author.Tests.{lt-ltb, le-ltb, le-leb, ne-eqb}
+use Rattle.theory.proofs.Shape.{len-trees}
 use Rattle.theory.specs.Syntax.{Base, zeroB, trueB, falseB, Val, Term, const, succ, tvar, raise, handle, cond, call, Terms, tnil, tcons, many, Program, Bindings, Found as TheoryFound, chosen, pick}
 use Rattle.theory.specs.Cost.{Args, vals, ended}
 use Rattle.theory.specs.Budget.{Remaining, endsLeaving, ranOut, thenWith, PayingEv, payArgs, bodyPays, callPays, payEval}
@@ -82,10 +83,6 @@ kind-call k =
       le-ltb w 256 (omega arith),
     )
     (ap Call (omega arith))
-
-len-trees : (ts : Terms) → len (trees ts) ≡ many ts
-len-trees tnil = refl
-len-trees (tcons t ts) = ap suc (len-trees ts)
 
 -- the arguments, where E evaluates words as evI does terms
 module _ (ks ws : List ℕ) (b : List Value) (θ : Bindings) (E : Evaluator) (evI : PayingEv)

@@ -5,6 +5,7 @@ use mathlib.Core.List.{List, [], _∷_, _++_, append-nil}
 use Prim.Native.Nat.{ℕ, zero, suc, _+_, _≤_}
 use native.Mathlib.Omega.{arith}
 use lib.ListN.{take}
+use Rattle.theory.proofs.Bounds.{sizes-variables}
 use Rattle.theory.specs.Syntax.{pick}
 use Rattle.theory.specs.Tree.{Rule, var, node, [·], _▹_, sizes}
 use Rattle.theory.specs.Words.{words, storedRules, storedRule}
@@ -22,10 +23,6 @@ pub other-differ : (d e : ℕ) → (d ≡ e → ⊥) → storedRules (otherRule 
 other-differ d e h = ap (λ (b : Bool). storedRules (pick b [] (otherOf d e))) (eqb-false d e h)
 
 -- a symbol over the first n variables
-sizes-vars : (i n : ℕ) → sizes (variables i n) ≡ n
-sizes-vars i zero = refl
-sizes-vars i (suc n) = omega (arith, sizes-vars (suc i) n)
-
 pub call-words : (w n : ℕ) → n ≤ 4 → take (n + 1) (w ∷ 64 ∷ 65 ∷ 66 ∷ 67 ∷ []) ≡ words (node w (variables 0 n))
 call-words w zero h = refl
 call-words w (suc zero) h = refl
@@ -36,7 +33,7 @@ call-words w (suc (suc (suc (suc (suc n))))) h = absurd (omega arith)
 
 pub entry-words : (k n : ℕ) → storedRule (entryRule k n) ≡ ((n + 1) ∷ (n + 1) ∷ []) ++ (words (node (aux k 0) (variables 0 n)) ++ words (node (aux k 1) (variables 0 n)))
 entry-words k n =
-    let e : suc (sizes (variables 0 n)) ≡ n + 1 = omega (arith, sizes-vars 0 n) in
+    let e : suc (sizes (variables 0 n)) ≡ n + 1 = omega (arith, sizes-variables 0 n) in
     ap (λ (s : ℕ). s ∷ s ∷ (words (node (aux k 0) (variables 0 n)) ++ words (node (aux k 1) (variables 0 n)))) e
 
 pub arg-words : (k n i : ℕ) → storedRules (argRule k n i)
@@ -44,8 +41,8 @@ pub arg-words : (k n i : ℕ) → storedRules (argRule k n i)
 arg-words k n i =
     let l = words (node (aux k (suc i)) (variables 0 n)) in
     let r = words (node (aux k (suc (suc i))) (variables 0 n)) in
-    let e : suc (sizes (variables 0 n)) ≡ n + 1 = omega (arith, sizes-vars 0 n) in
-    let g : suc (2 + (suc (sizes (variables 0 n)) + 0)) ≡ n + 4 = omega (arith, sizes-vars 0 n) in
+    let e : suc (sizes (variables 0 n)) ≡ n + 1 = omega (arith, sizes-variables 0 n) in
+    let g : suc (2 + (suc (sizes (variables 0 n)) + 0)) ≡ n + 4 = omega (arith, sizes-variables 0 n) in
     let one : suc i ≡ i + 1 = omega arith in
     let two : suc (suc i) ≡ i + 2 = omega arith in
     append-nil (storedRule (node (aux k (suc i)) (variables 0 n) ⇒ node 7 (node 9 (var i ▹ [·]) ▹ node (aux k (suc (suc i))) (variables 0 n) ▹ [·])))

@@ -7,8 +7,8 @@ use native.Mathlib.Numerals.{add-one}
 use native.Mathlib.Omega.{arith}
 use lib.Dec.{eqb, leb, ltb}
 use lib.ListN.{length, getD, drop, set, length-drop, drop-of-length-le}
-use lib.Seq.{drop-cons}
 use borrow.Author.Tests.{lt-ltb, le-ltb, le-leb, lt-leb, eq-eqb, ne-eqb, eqb-true, eqb-false, leb-true}
+use Rattle.theory.proofs.Lists.{drop-next}
 use Rattle.theory.specs.Syntax.{pick, choose}
 use Rattle.theory.specs.Buffers.{over, put}
 use Rattle.words.proofs.Writes.{put-none, length-put}
@@ -18,9 +18,6 @@ use Rattle.lines.specs.Hex.{digitOf, byteOf, allDigits, pairsOf, readabl
 use Rattle.lines.specs.Fields.{upTo, decodedOf, writtenOf, Fits}
 
 -- the bytes from p on are the byte at p and those from p + 1 on
-pub drop-next : (ws : List ℕ) (p : ℕ) → p < length ws → drop p ws ≡ getD ws p 0 ∷ drop (p + 1) ws
-drop-next ws p h = rw add-one (drop-cons ws p 0 h)
-
 -- a digit by its range
 module _ (c : ℕ) where
   pub below-0 : c < 48 → 16 ≡ digitOf c
@@ -221,15 +218,6 @@ module _ (f out : List ℕ) where
 
   pub fits-after : (after : List ℕ) → after ≡ put 0 (pairsOf f) out → length f / 2 ≤ length out → length f / 2 ≤ length after
   fits-after after e h = rw (e, length-put 0 (pairsOf f) out) h
-
--- a test that is turned round
-pub not-false : (b : Bool) → not b ≡ true → b ≡ false
-not-false true e = sym e
-not-false false e = refl
-
-pub not-true : (b : Bool) → not b ≡ false → b ≡ true
-not-true true e = refl
-not-true false e = sym e
 
 -- what was read lies within its buffer
 pub fits-count : (r : Decoded) (n m : ℕ) → Fits r m → r ≡ Bytes n → n ≤ m

@@ -9,12 +9,13 @@ use lib.Dec.{ltb}
 use lib.ListN.{length, getD, drop, drop-of-length-le, length-drop}
 use lib.Seq.{drop-drop, drop-nil}
 use borrow.Author.Tests.{lt-ltb, le-ltb}
+use Rattle.theory.proofs.Lists.{drop-next}
 use Rattle.theory.specs.Syntax.{pick}
 use Rattle.theory.specs.Tree.{active}
 use Rattle.words.specs.declared.terms.Reach.{Reach}
 use Rattle.words.specs.declared.terms.Reach.the-variants.{End, Short}
 use Rattle.words.specs.Terms.{arityOf, past}
-use Rattle.words.proofs.Skips.{past-reach, drop-next}
+use Rattle.words.proofs.Skips.{past-reach, never}
 use Rattle.rules.specs.Matching.{reached}
 use Rattle.rules.specs.Finding.{isFound, fittingOf}
 use Rattle.rules.specs.declared.finding.Fitting.{Fitting}
@@ -39,9 +40,6 @@ module _ (ks : List ℕ) (w : ℕ) (ws : List ℕ) (p : ℕ) where
 
     pub below-past : active w ≤ arityOf ks w → below ks w ws p ≡ past (arityOf ks) ws (active w - 1) p
     below-past k = some-part ∙ ap (λ (b : Bool). pick b Short (past (arityOf ks) ws (active w - 1) p)) (le-ltb (arityOf ks w) (active w) k)
-
-  never : {A : Type 0} (q : ℕ) → Short ≡ End q → A
-  never q e = absurd (let z : _≡_ {A = ℕ} 0 1 = cc in omega arith)
 
   -- the part stands behind the root, among the words
   pub below-reach : (q : ℕ) → below ks w ws p ≡ End q → (p ≤ q) × (q ≤ p + length ws)

@@ -3,12 +3,11 @@ use Prim.Native.Nat.{ℕ, zero, suc, _+_, _-_, _≤_, _<_}
 use mathlib.Core.Path.{_≡_, refl, ap, _∙_}
 use mathlib.Core.Bool.{Bool, true, false, _||_}
 use mathlib.Core.List.{List, [], _∷_}
-use native.Mathlib.Numerals.{add-one}
 use native.Mathlib.Omega.{arith}
 use lib.Dec.{eqb}
 use lib.ListN.{length, getD, drop, length-drop, drop-of-length-le}
-use lib.Seq.{drop-cons}
 use borrow.Author.Tests.{ne-eqb}
+use Rattle.theory.proofs.Lists.{drop-next}
 use Rattle.theory.specs.Syntax.{pick}
 use Rattle.theory.specs.Bytes.{bodyLength, NextRecord, noneLeft, cutShort, nextIs, withBody, nextRecord}
 use Rattle.record.specs.declared.Record.{Record}
@@ -22,10 +21,6 @@ no-body k a b c d e f g h =
 pick-most : (b : Bool) (x y : ℕ) → x ≤ 2 → y ≤ 2 → pick b x y ≤ 2
 pick-most true x y h k = h
 pick-most false x y h k = k
-
--- the bytes from p on are the byte at p and those from p + 1 on
-pub drop-next : (ws : List ℕ) (p : ℕ) → p < length ws → drop p ws ≡ getD ws p 0 ∷ drop (p + 1) ws
-drop-next ws p h = rw add-one (drop-cons ws p 0 h)
 
 pub nothing-left : (ws : List ℕ) (p : ℕ) → length ws ≤ p → recordAt ws p ≡ record { kind = 0; body = 0; second = 0; len = 0 }
 unfolding recordAt

@@ -6,9 +6,9 @@ use mathlib.Core.List.{List, [], _∷_}
 use Prim.Native.Nat.{ℕ, zero, suc, _+_, _-_, _≤_, _<_}
 use lib.Dec.{eqb}
 use lib.ListN.{length, getD, drop, drop-of-length-le}
+use Rattle.theory.proofs.Lists.{drop-next}
 use Rattle.theory.specs.Syntax.{pick}
 use Rattle.theory.proofs.Tests.{eqb-true, eqb-false}
-use Rattle.words.proofs.Skips.{drop-next}
 use Rattle.rewriter.specs.Read.{exnW, firedW, rootW, readW}
 use Rattle.rewriter.specs.declared.ending.Base.the-variants as b
 use Rattle.rewriter.specs.declared.ending.Said.the-variants.{Value, Raised, Stuck}

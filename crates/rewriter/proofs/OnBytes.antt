@@ -4,10 +4,11 @@
 -- variable behind fire (none stands there in any term of a run, `program-fires`, `no-variable-fired`). The cases that the code still has and
 -- no accepted program reaches show nothing of their own: a word below 32 behind fire has the theory's value (`exn_of`); a rule that is not
 -- whole, and a term that ends before its left side does (`apply_rule`), would end a run where the theory's goes on.
-use mathlib.Core.Path.{_≡_, refl, sym, ap, _∙_}
+use mathlib.Core.Path.{_≡_, sym, ap, _∙_}
 use mathlib.Core.List.{List, []}
 use Prim.Native.Nat.{ℕ}
 use lib.ListN.{getD}
+use Rattle.rules.proofs.Standing.{standing-same}
 use Rattle.theory.specs.Syntax.{Fun, Term}
 use Rattle.theory.specs.Builtins.{funOf}
 use Rattle.theory.specs.Buffers.{over, padded}
@@ -24,10 +25,6 @@ use Rattle.rewriter.specs.Read.{answerW, runOn}
 use Rattle.rewriter.specs.Meaning.{answerOf}
 use Rattle.rewriter.specs.declared.Answer.{Answer}
 use Rattle.rewriter.proofs.Programs.{run-is-theirs}
-
--- the standing list is the same for every program
-standing-same : (fs : List Fun) → storedRules (standing (funOf fs)) ≡ storedRules (standing (funOf []))
-standing-same fs = refl
 
 module _ (p q : List ℕ) (s : Book) (t : Term) (ep : readProgram p ≡ good s) (eq : readQuestion (s .decls) q ≡ good t) where
   sound : Sound (programOf s)

@@ -10,13 +10,13 @@ use native.Mathlib.Nat.{add-zero}
 use native.Mathlib.Omega.{arith}
 use lib.Dec.{eqb}
 use lib.ListN.{length, getD, take, drop, set, replicate, length-set, length-drop}
-use lib.Seq.{getD-set-same, getD-set-other, take-append-seam, drop-append-seam, drop-drop}
+use lib.Seq.{getD-set-same, getD-set-other, take-append-seam}
 use Rattle.theory.specs.Syntax.{pick, andThen, elem}
 use Rattle.theory.specs.Tree.{Tree, Trees, var, node, [·], _▹_, Subst, bindTree, noSubst, inst, match, matches, size, sizes, len}
 use Rattle.theory.specs.Words.{words, allWords, isVar, Shaped, Shapeds}
 use Rattle.theory.specs.Buffers.{part}
 use Rattle.theory.specs.Proper.{AllIn, treeVars, treesVars}
-use Rattle.theory.proofs.Members.{or-true, elem-append, elem-one, all-in}
+use Rattle.theory.proofs.Lists.{or-true, elem-append, elem-one, all-in, drop-next, past-it}
 use Rattle.theory.proofs.Tests.{eqb-true, eq-of-eqb, ne-of-eqb}
 use Rattle.theory.proofs.Readability.{isVar-word, length-words}
 use Rattle.theory.proofs.Filling.{fill, fill-words}
@@ -26,12 +26,9 @@ use Rattle.words.specs.Terms.{arityOf}
 use Rattle.words.proofs.Trees.{skip-tree}
 use Rattle.rules.specs.Matching.{takes, reached, fits, noted, binds, boundTo}
 use Rattle.rules.specs.declared.matching.Bound.{Bound}
-use Rattle.rules.proofs.Takes.{drop-next, takes-var, takes-same, takes-other}
+use Rattle.rules.proofs.Takes.{takes-var, takes-same, takes-other}
 
 -- ---- words at a place
-pub past-it : (ws xs ys : List ℕ) (p : ℕ) → drop p ws ≡ xs ++ ys → drop (p + length xs) ws ≡ ys
-past-it ws xs ys p e = sym (drop-drop (length xs) p ws) ∙ ap (drop (length xs)) e ∙ drop-append-seam xs ys
-
 pub past-tree : (ws : List ℕ) (t : Tree) (ys : List ℕ) (p : ℕ) → drop p ws ≡ words t ++ ys → drop (p + size t) ws ≡ ys
 past-tree ws t ys p e = ap (λ (n : ℕ). drop (p + n) ws) (sym (length-words t)) ∙ past-it ws (words t) ys p e
 

@@ -10,6 +10,7 @@ use native.Mathlib.Omega.{arith}
 use lib.Dec.{eqb, ltb}
 use lib.ListN.{length, replicate}
 use borrow.Author.Tests.{lt-ltb, le-ltb, ltb-true, ltb-false, eqb-true, eqb-false}
+use Rattle.theory.proofs.Tests.{pick-any}
 use Rattle.theory.specs.Syntax.{Def, Fun, pick}
 use Rattle.theory.specs.Builtins.{function, builtinFuns, nthFun, funOf, numbersOf, program}
 use Rattle.theory.specs.Tree.{Rule}
@@ -86,10 +87,6 @@ apart-gather w f i (suc n) h = apart-append w (f i) (gather f (numbers (suc i) n
 apart-slots : (w : ℕ) → 256 ≤ w → w < 640 → (rs : List Rule) → Apart w rs → Other (slotOf w) rs
 apart-slots w h k [] a = tt
 apart-slots w h k (r ∷ rs) a = ((λ e. a .0 (slot-once (rootOf r) w h k e)), apart-slots w h k rs (a .1))
-
-pick-any : {A : Type 0} (P : A → Type 0) (t : Bool) (a b : A) → P a → P b → P (pick t a b)
-pick-any P true a b h g = h
-pick-any P false a b h g = g
 
 exns-apart : (w n : ℕ) → 256 ≤ w → Apart w (exnRules n)
 exns-apart w n h =
@@ -208,7 +205,7 @@ numbers-are : (i : ℕ) (fs : List Fun) → numbersOf i fs ≡ numbers i (length
 numbers-are i [] = refl
 numbers-are i (f ∷ fs) = ap (i ∷_) (numbers-are (suc i) fs)
 
-nth-past : (fs : List Fun) (i : ℕ) → length fs ≤ i → nthFun fs i ≡ function 0 []
+pub nth-past : (fs : List Fun) (i : ℕ) → length fs ≤ i → nthFun fs i ≡ function 0 []
 nth-past [] i h = refl
 nth-past (f ∷ fs) zero h = absurd (not-suc-le-zero h)
 nth-past (f ∷ fs) (suc i) h = nth-past fs i (le-of-suc-le-suc h)

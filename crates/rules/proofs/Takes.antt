@@ -2,14 +2,13 @@
 use mathlib.Core.Path.{_≡_, refl, ap, _∙_}
 use mathlib.Core.Logic.{_≢_}
 use mathlib.Core.Bool.{Bool, true, false}
-use mathlib.Core.List.{List, _∷_}
+use mathlib.Core.List.{List}
 use Prim.Native.Nat.{ℕ, _+_, _-_, _≤_, _<_}
-use native.Mathlib.Numerals.{add-one}
 use native.Mathlib.Omega.{arith}
 use lib.Dec.{eqb, leb, ltb}
 use lib.ListN.{length, getD, drop, set, drop-of-length-le}
-use lib.Seq.{drop-cons}
 use borrow.Author.Tests.{lt-ltb, le-ltb}
+use Rattle.theory.proofs.Lists.{drop-next}
 use Rattle.theory.specs.Syntax.{pick}
 use Rattle.theory.specs.Words.{isVar}
 use Rattle.theory.proofs.Tests.{eqb-true, eqb-false, le-of-leb}
@@ -49,9 +48,6 @@ module _ (ks ss : List ℕ) (p j : ℕ) where
 
   pub takes-out : isVar p ≡ false → length ss ≤ j → takes ks ss p j ≡ Short
   takes-out e h = takes-word e ∙ ap (λ (b : Bool). pick b (pick (eqb p (getD ss j 0)) (End (j + 1)) Short) Short) (le-ltb j (length ss) h)
-
-pub drop-next : (ws : List ℕ) (p : ℕ) → p < length ws → drop p ws ≡ getD ws p 0 ∷ drop (p + 1) ws
-drop-next ws p h = rw add-one (drop-cons ws p 0 h)
 
 module _ (ks ss left : List ℕ) (i j : ℕ) where
   pub fits-end : length left ≤ i → fits ks ss (drop i left) j ≡ true

@@ -352,6 +352,10 @@ question-ok D bs = go (readSide D (suc (length bs)) inQuestion 1 0 0 bs) (side-o
         (λ e. (term-ok D (termsFrom (s .records)) 0 (build-ok D (s .records) 1 (h .0) (h .1)), term-closed D (termsFrom (s .records)) 0 (build-closed D (s .records) k))) tt
 
 -- from the declarations to the program
+pub length-funs : (f : ℕ) (ns : List ℕ) (rs : List RuleAt) → length (funsOf f ns rs) ≡ length ns
+length-funs f [] rs = refl
+length-funs f (a ∷ ns) rs = ap suc (length-funs (suc f) ns rs)
+
 module _ (s : Book) (h : BookOk s) where
   abbrev D : Declared
   D = s .decls
@@ -361,10 +365,6 @@ module _ (s : Book) (h : BookOk s) where
 
   abbrev P : Program
   P = programOf s
-
-  length-funs : (f : ℕ) (ns : List ℕ) → length (funsOf f ns (s .rulesAt)) ≡ length ns
-  length-funs f [] = refl
-  length-funs f (a ∷ ns) = ap suc (length-funs (suc f) ns)
 
   arity-funs : (f : ℕ) (ns : List ℕ) (b : ℕ) → nthFun (funsOf f ns (s .rulesAt)) b .arity ≡ nthArity ns b
   arity-funs f [] b = refl
@@ -400,7 +400,7 @@ module _ (s : Book) (h : BookOk s) where
       let b = r .0 in
       let e = r .1 in
       let l = r .2 in
-      let len = length-funs 0 (D .arities) in (
+      let len = length-funs 0 (D .arities) (s .rulesAt) in (
         or-right (elem k builtins) (elem k (P .own)) (elem-own fs 16 k (omega (arith, e)) (omega (arith, e, l, len))),
         r .3 ∙ sym (arity-funs 0 (D .arities) b) ∙ ap (λ (f : Fun). f .arity) (sym (fun-high b)) ∙ ap (λ (i : ℕ). P .fun i .arity) (sym e),
       )

@@ -7,6 +7,7 @@ use mathlib.Core.List.{List, [], _∷_, _++_, append-assoc, append-nil}
 use native.Mathlib.Omega.{arith}
 use lib.Dec.{eqb, leb, ltb, leb→le, ltb→lt, eqb→eq}
 use lib.ListN.{length, length-append}
+use Rattle.theory.proofs.Lists.{none-left}
 use Rattle.theory.specs.Syntax.{Term, Pat, choose}
 use Rattle.theory.specs.Overlap.{overlaps}
 use Rattle.theory.specs.Proper.{patsVars, termVars}
@@ -16,10 +17,6 @@ use Rattle.theory.proofs.Tests.{leb-true, eqb-true, eq-of-eqb, and-left
 use Rattle.theory.proofs.Accepted.{Ok, choose-ok, within-ok, also-ok, ok-of}
 use Rattle.theory.proofs.RecordsOfTerms.{flats, flats-build, termsOf, pats-of}
 use Rattle.theory.proofs.SidesRead.{next-is, of-kind, TermReads, LeftReads, RightReads, left-reads, left-back, right-reads, right-back, asked-reads, asked-back, built, all-in, seen-same, ok-map, or-first, or-second, onto, IsNext}
-
-none-left : (l : List ℕ) → length l ≡ 0 → l ≡ []
-none-left [] e = refl
-none-left (x ∷ l) e = absurd (omega (arith, e))
 
 -- A QUESTION
 question-reads : (D : Declared) (q : List ℕ) → Ok (λ t. (q ≡ encode t) × ValidQuestion D t) (readQuestion D q)

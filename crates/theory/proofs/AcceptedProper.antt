@@ -13,9 +13,9 @@ use Rattle.theory.specs.Tree.{Tree}
 use Rattle.theory.specs.Translation.{rules}
 use Rattle.theory.specs.Bytes.{good, RuleAt, Book, defsOf, funsOf, readProgram, programOf}
 use Rattle.theory.specs.Encoding.{Each, ValidRule, NotOverlapping, NoneOverlap, Valid}
-use Rattle.theory.proofs.Tests.{and-left, and-right, eq-of-eqb}
+use Rattle.theory.proofs.Tests.{and-left, and-right, eq-of-eqb, is-false}
 use Rattle.theory.proofs.OverlapMeaning.{only-one}
-use Rattle.theory.proofs.Separate.{distinct, allIn, is-false, distinct-of, allIn-of, program-rules-proper}
+use Rattle.theory.proofs.Separate.{distinct, allIn, distinct-of, allIn-of, program-rules-proper}
 use Rattle.theory.proofs.PaperRewriting.{apart-of}
 use Rattle.theory.proofs.Accepted.{program-on-bytes}
 use Rattle.theory.proofs.AcceptedExactly.{accepted-exactly}

@@ -97,7 +97,7 @@ exceptions-stored n few =
     omega (arith, a, b, c, d, e, f, g, few)
 
 -- a function of arity n: its entry, and a rule for each argument
-sizes-variables : (i n : ℕ) → sizes (variables i n) ≡ n
+pub sizes-variables : (i n : ℕ) → sizes (variables i n) ≡ n
 sizes-variables i zero = refl
 sizes-variables i (suc n) = let e = sizes-variables (suc i) n in omega (arith, e)
 

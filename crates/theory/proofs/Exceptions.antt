@@ -15,7 +15,7 @@ use Rattle.theory.specs.Tree.{Tree, Trees, var, node, [·], _▹_, Subst
 use Rattle.theory.specs.Translation.{exnT, fireT, selectT, aux, _⇒_, tree, trees, under, commonRules, numbers, gather, raiseRule, handleRule, sameRule, otherRule, exnRules, variables, argRule, ownRules, funRules, builtins, standing, ownList, rules}
 use Rattle.theory.specs.Turns.{underSucc, exceptionOf, readOff, readOffPart, turn, oneMore, runInRoom, rewriter}
 use Rattle.theory.specs.Bytes.{good, Book, readProgram, programOf, readQuestion}
-use Rattle.theory.proofs.Tests.{true→T, and-left, and-right, eqb-false, eq-of-eqb}
+use Rattle.theory.proofs.Tests.{true→T, and-left, and-right, eqb-false, eq-of-eqb, and-both}
 use Rattle.theory.proofs.Reach.{stepPart-zero}
 use Rattle.theory.proofs.RootsHold.{lawful}
 use Rattle.theory.proofs.Sound.{Good, sound}
@@ -109,10 +109,6 @@ abbrev FillingO : (ℕ → Bool) → Option Subst → Type 0
 FillingO Γ none = Unit {0}
 FillingO Γ (some σ) = Filling Γ σ
 
-both : (a b : Bool) → T a → T b → T (a && b)
-both true b h k = k
-both false b h k = absurd h
-
 or-map : (a b c : Bool) → (T b → T c) → T (a || b) → T (a || c)
 or-map true b c f h = tt
 or-map false b c f h = f h
@@ -177,14 +173,14 @@ module _ (Γ : ℕ → Bool) where
     inst-fires : (t : Tree) (σ : Subst) → T (fires Γ t) → Filling Γ σ → Fires (inst σ t)
     inst-fires (var x) σ h hs = hs x .0
     inst-fires (node s ts) σ h hs =
-        both (not (eqb s 6) || below noneUnder (insts σ ts)) (allFire noneUnder (insts σ ts))
+        and-both (not (eqb s 6) || below noneUnder (insts σ ts)) (allFire noneUnder (insts σ ts))
         (or-map (not (eqb s 6)) (below Γ ts) (below noneUnder (insts σ ts)) (below-filled ts σ hs) (and-left (not (eqb s 6) || below Γ ts) (allFire Γ ts) h))
         (insts-fire ts σ (and-right (not (eqb s 6) || below Γ ts) (allFire Γ ts) h) hs)
 
     insts-fire : (ts : Trees) (σ : Subst) → T (allFire Γ ts) → Filling Γ σ → FiresAll (insts σ ts)
     insts-fire [·] σ h hs = tt
     insts-fire (t ▹ ts) σ h hs =
-        both (fires noneUnder (inst σ t)) (allFire noneUnder (insts σ ts)) (inst-fires t σ (and-left (fires Γ t) (allFire Γ ts) h) hs)
+        and-both (fires noneUnder (inst σ t)) (allFire noneUnder (insts σ ts)) (inst-fires t σ (and-left (fires Γ t) (allFire Γ ts) h) hs)
         (insts-fire ts σ (and-right (fires Γ t) (allFire Γ ts) h) hs)
 
 -- rules that keep it
@@ -217,7 +213,7 @@ fit-fires (r ∷ rs) h t k = go (apply r t) (apply-fires r t (h .0) k) (fit-fire
 module _ (root : Tree → Option Tree) (keeps : (t : Tree) → Fires t → FiresO (root t)) where
   inside-fires : (s : ℕ) (o : Option Trees) (r : Option Tree) → (s ≡ 6 → o ≡ none) → FiresAllO o → FiresO r → FiresO (inside s o r)
   inside-fires s none r e h k = k
-  inside-fires s (some us) r e h k = both (not (eqb s 6) || below noneUnder us) (allFire noneUnder us) (go (eqb s 6) refl) h
+  inside-fires s (some us) r e h k = and-both (not (eqb s 6) || below noneUnder us) (allFire noneUnder us) (go (eqb s 6) refl) h
     where
       go : (c : Bool) → eqb s 6 ≡ c → T (not c || below noneUnder us)
       go true i = absurd (Option·none-ne-some us (sym (e (eq-of-eqb s 6 i))))
@@ -225,11 +221,11 @@ module _ (root : Tree → Option Tree) (keeps : (t : Tree) → Fires t → Fires
 
   first-fires : (ts : Trees) (o : Option Tree) → FiresAll ts → FiresO o → FiresAllO (first ts o)
   first-fires ts none h k = tt
-  first-fires ts (some t) h k = both (fires noneUnder t) (allFire noneUnder ts) k h
+  first-fires ts (some t) h k = and-both (fires noneUnder t) (allFire noneUnder ts) k h
 
   later-fires : (t : Tree) (o : Option Trees) → Fires t → FiresAllO o → FiresAllO (later t o)
   later-fires t none h k = tt
-  later-fires t (some ts) h k = both (fires noneUnder t) (allFire noneUnder ts) h k
+  later-fires t (some ts) h k = and-both (fires noneUnder t) (allFire noneUnder ts) h k
 
   mutual
     unfolding step
@@ -257,7 +253,7 @@ module _ (Γ : ℕ → Bool) where
   exn-fires e = other-fires (32 + e) [·] (λ i. omega (arith, i)) tt
 
   fired : (e : ℕ) → e < 16 → T (fires Γ (fireT (exnT e)))
-  fired e l = both (ltb (32 + e) 48) (fires Γ (exnT e) && true) (le→leb (suc (32 + e)) 48 (omega (arith, l))) (both (fires Γ (exnT e)) true (exn-fires e) tt)
+  fired e l = and-both (ltb (32 + e) 48) (fires Γ (exnT e) && true) (le→leb (suc (32 + e)) 48 (omega (arith, l))) (and-both (fires Γ (exnT e)) true (exn-fires e) tt)
 
   variables-fire : (i n : ℕ) → T (allFire Γ (variables i n))
   variables-fire i zero = tt
@@ -271,20 +267,20 @@ module _ (Γ : ℕ → Bool) where
     tree-fires (const zeroB) = tt
     tree-fires (const trueB) = tt
     tree-fires (const falseB) = tt
-    tree-fires (succ t) = both (fires Γ (tree t)) true (tree-fires t) tt
+    tree-fires (succ t) = and-both (fires Γ (tree t)) true (tree-fires t) tt
     tree-fires (tvar x) = tt
-    tree-fires (raise e) = both (fires Γ (exnT e)) true (exn-fires e) tt
+    tree-fires (raise e) = and-both (fires Γ (exnT e)) true (exn-fires e) tt
     tree-fires (handle t e h) =
-        both (fires Γ (tree t)) (fires Γ (exnT e) && (fires Γ (tree h) && true)) (tree-fires t)
-        (both (fires Γ (exnT e)) (fires Γ (tree h) && true) (exn-fires e) (both (fires Γ (tree h)) true (tree-fires h) tt))
+        and-both (fires Γ (tree t)) (fires Γ (exnT e) && (fires Γ (tree h) && true)) (tree-fires t)
+        (and-both (fires Γ (exnT e)) (fires Γ (tree h) && true) (exn-fires e) (and-both (fires Γ (tree h)) true (tree-fires h) tt))
     tree-fires (cond t a b) =
-        both (fires Γ (tree t)) (fires Γ (tree a) && (fires Γ (tree b) && true)) (tree-fires t)
-        (both (fires Γ (tree a)) (fires Γ (tree b) && true) (tree-fires a) (both (fires Γ (tree b)) true (tree-fires b) tt))
+        and-both (fires Γ (tree t)) (fires Γ (tree a) && (fires Γ (tree b) && true)) (tree-fires t)
+        (and-both (fires Γ (tree a)) (fires Γ (tree b) && true) (tree-fires a) (and-both (fires Γ (tree b)) true (tree-fires b) tt))
     tree-fires (call k ts) = aux-fires k 0 (trees ts) (trees-fire ts)
 
     trees-fire : (ts : Terms) → T (allFire Γ (trees ts))
     trees-fire tnil = tt
-    trees-fire (tcons t ts) = both (fires Γ (tree t)) (allFire Γ (trees ts)) (tree-fires t) (trees-fire ts)
+    trees-fire (tcons t ts) = and-both (fires Γ (tree t)) (allFire Γ (trees ts)) (tree-fires t) (trees-fire ts)
 
 -- THE RULES: only common ones have a variable under fire
 mutual
@@ -295,7 +291,7 @@ mutual
 
   none-bind : (b : Bool) (ls : Trees) → T (allBind noneUnder b ls)
   none-bind b [·] = tt
-  none-bind b (l ▹ ls) = both (binds noneUnder b l) (allBind noneUnder false ls) (none-binds b l) (none-bind false ls)
+  none-bind b (l ▹ ls) = and-both (binds noneUnder b l) (allBind noneUnder false ls) (none-binds b l) (none-bind false ls)
 
 plain : (r : Rule) → T (fires noneUnder (r .rhs)) → RuleFires r
 plain r h = record { under-it = noneUnder; left = none-binds false (r .lhs); right = h }
@@ -324,7 +320,7 @@ exceptions-fire n few =
     let es = numbers 0 n in
     let others = gather (λ d. gather (otherRule d) es) es in
     append-fire (gather raiseRule es) (gather handleRule es ++ (gather sameRule es ++ others)) (upto-fire raiseRule 0 n (λ e l. (plain _ (fired noneUnder e (omega (arith, l, few))), tt)))
-    (append-fire (gather handleRule es) (gather sameRule es ++ others) (gather-fire handleRule es (λ e. (plain _ (both (fires noneUnder (exnT e)) true (exn-fires noneUnder e) tt), tt)))
+    (append-fire (gather handleRule es) (gather sameRule es ++ others) (gather-fire handleRule es (λ e. (plain _ (and-both (fires noneUnder (exnT e)) true (exn-fires noneUnder e) tt), tt)))
     (append-fire (gather sameRule es) others (gather-fire sameRule es (λ e. (plain _ tt, tt)))
     (upto-fire (λ d. gather (otherRule d) es) 0 n (λ d l. gather-fire (otherRule d) es (λ e. other d e (omega (arith, l, few)) (eqb d e))))))
   where
@@ -339,7 +335,7 @@ own-fire k n (d ∷ ds) = (plain _ (tree-fires noneUnder (d .right)), own-fire k
 argument-fire : (k n i : ℕ) → RulesFire (argRule k n i)
 argument-fire k n i =
     let rest = node (aux k (suc (suc i))) (variables 0 n) in
-    (plain _ (both (fires noneUnder rest) true (aux-fires noneUnder k (suc (suc i)) (variables 0 n) (variables-fire noneUnder 0 n)) tt), tt)
+    (plain _ (and-both (fires noneUnder rest) true (aux-fires noneUnder k (suc (suc i)) (variables 0 n) (variables-fire noneUnder 0 n)) tt), tt)
 
 function-fire : (fun : ℕ → Fun) (k : ℕ) → RulesFire (funRules fun k)
 function-fire fun k =

@@ -9,7 +9,7 @@ use Rattle.theory.specs.Tree.{Tree, Trees, var, node, [·], _▹_, Subst
 use Rattle.theory.specs.Words.{words, allWords, isVar, Shaped, Shapeds}
 use Rattle.theory.specs.Proper.{treeVars, treesVars}
 use Rattle.theory.proofs.Tests.{eqb-true}
-use Rattle.theory.proofs.Members.{elem-left, elem-right}
+use Rattle.theory.proofs.Lists.{elem-left, elem-right}
 use Rattle.theory.proofs.Readability.{isVar-word}
 
 -- the words of a right side, each variable replaced by the words that are bound to it

@@ -1,7 +1,7 @@
 -- Laws and theorems over the definitions, by subject.
 -- numbers, trees and words
 pub mod Tests
-pub mod Members
+pub mod Lists
 pub mod Active
 pub mod Readability
 pub mod Filling

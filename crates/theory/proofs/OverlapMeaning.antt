@@ -11,11 +11,7 @@ use Rattle.theory.specs.Builtins.{funOf}
 use Rattle.theory.specs.Tree.{Tree, Trees, var, node, [·], _▹_, Subst, match, matches, Rule, filled, apply, firstFit}
 use Rattle.theory.specs.Translation.{standing}
 use Rattle.theory.specs.Overlap.{IsSome, clash, clashes, alone, apart, OnlyOne, overlap, overlaps}
-use Rattle.theory.proofs.Tests.{and-left, and-right}
-
-and-both : (a b : Bool) → T a → T b → T (a && b)
-and-both true b p q = q
-and-both false b p q = p
+use Rattle.theory.proofs.Tests.{and-left, and-right, and-both}
 
 pick-is : {A : Type 0} (b : Bool) (o : Option A) → IsSome (pick b o none) → T b × IsSome o
 pick-is true o h = (tt, h)
@@ -93,7 +89,7 @@ common (psucc p) (psucc q) = up (common p q)
 common (psucc p) (pvar y) = up (ground p)
 common (pvar x) q = ground q
 
-same-refl : (b : Base) → sameBase b b ≡ true
+pub same-refl : (b : Base) → sameBase b b ≡ true
 same-refl zeroB = refl
 same-refl trueB = refl
 same-refl falseB = refl

@@ -15,8 +15,8 @@ use Rattle.theory.specs.Endings.{Ending, value, raised, stuck, tooDeep}
 use Rattle.theory.specs.Cost.{Cost, paying, after, succRow, handleRow, ifRow, Args, vals, ended, ArgCost, consRow, argRow, evalArgs, bodyRow, callRow, evalTerm, eval, Evaluating as Evaluator}
 use Rattle.theory.specs.Overlap.{IsSome, overlaps}
 use Rattle.theory.specs.Proper.{Distinct, patVars, patsVars, Apart, ProperDefs, Proper}
-use Rattle.theory.proofs.Tests.{eqb-true, eq-of-eqb, eqb-false, ne-of-eqb}
-use Rattle.theory.proofs.OverlapMeaning.{overlap-exactly}
+use Rattle.theory.proofs.Tests.{eqb-true, eq-of-eqb, eqb-false, ne-of-eqb, then-some}
+use Rattle.theory.proofs.OverlapMeaning.{overlap-exactly, same-refl}
 
 -- DEFINITION 3.2. The variables of a list of patterns are those of the first and those of the rest.
 rest-distinct : (p : Pat) (xs : List ℕ) → Distinct (patVars p ++ xs) → Distinct xs
@@ -48,11 +48,6 @@ same-base falseB zeroB e = absurd (false≢true e)
 same-base falseB trueB e = absurd (false≢true e)
 same-base falseB falseB e = refl
 
-base-same : (b : Base) → sameBase b b ≡ true
-base-same zeroB = refl
-base-same trueB = refl
-base-same falseB = refl
-
 picked : {A : Type 0} (b : Bool) (a c : A) → pick b (some a) none ≡ some c → (b ≡ true) × (a ≡ c)
 picked true a c e = (refl, Option·some-injective a c e)
 picked false a c e = absurd (Option·none-ne-some c e)
@@ -79,16 +74,12 @@ put-again (pbase b) xs d σ τ h = refl
 put-again (psucc p) xs d σ τ h = ap up (put-again p xs d σ τ h)
 put-again (pvar y) xs d σ τ h = h y (d .0)
 
-then-both : {A B : Type 0} (o : Option A) (f : A → Option B) (b : B) → andThen o f ≡ some b → (a : A) × (o ≡ some a) × (f a ≡ some b)
-then-both none f b e = absurd (Option·none-ne-some b e)
-then-both (some a) f b e = (a, refl, e)
-
 fits-says : (ps : List Pat) (vs : List Val) (θ σ : Bindings) → Distinct (patsVars ps) → fits ps vs θ ≡ some σ → (putIns σ ps ≡ vs) × Beyond (patsVars ps) σ θ
 fits-says [] [] θ σ d e = (refl, λ x i. sym (ap (λ (τ : Bindings). τ x) (Option·some-injective θ σ e)))
 fits-says [] (v ∷ vs) θ σ d e = absurd (Option·none-ne-some σ e)
 fits-says (p ∷ ps) [] θ σ d e = absurd (Option·none-ne-some σ e)
 fits-says (p ∷ ps) (v ∷ vs) θ σ d e =
-    let (τ, e₁, e₂) = then-both (fit p v θ) (fits ps vs) σ e in
+    let (τ, e₁, e₂) = then-some (fit p v θ) (fits ps vs) σ e in
     let first = fit-says p v θ τ e₁ in
     let rest = fits-says ps vs τ σ (rest-distinct p (patsVars ps) d) e₂ in
     let head : putIn σ p ≡ v = put-again p (patsVars ps) d σ τ (rest .1) ∙ first .0 in (
@@ -103,7 +94,7 @@ bindOne σ (psucc p) θ = bindOne σ p θ
 bindOne σ (pvar y) θ = bindValue θ y (σ y)
 
 fit-put : (p : Pat) (σ θ : Bindings) → fit p (putIn σ p) θ ≡ some (bindOne σ p θ)
-fit-put (pbase b) σ θ = ap (λ (x : Bool). pick x (some θ) none) (base-same b)
+fit-put (pbase b) σ θ = ap (λ (x : Bool). pick x (some θ) none) (same-refl b)
 fit-put (psucc p) σ θ = fit-put p σ θ
 fit-put (pvar y) σ θ = refl
 

@@ -15,8 +15,8 @@ use Rattle.theory.specs.Words.{Shaped, Shapeds}
 use Rattle.theory.specs.Translation.{aux}
 use Rattle.theory.specs.Overlap.{IsSome, alone, apart}
 use Rattle.theory.specs.Proper.{Distinct, treeVars, treesVars, ProperRule, ApartRule, ProperRules}
-use Rattle.theory.proofs.Tests.{T→true, le-of-leb, eqb-true, eq-of-eqb}
-use Rattle.theory.proofs.Members.{or-true, elem-append, elem-left, elem-right, elem-one, all-in}
+use Rattle.theory.proofs.Tests.{T→true, le-of-leb, eqb-true, eq-of-eqb, then-some}
+use Rattle.theory.proofs.Lists.{or-true, elem-append, elem-left, elem-right, elem-one, all-in}
 use Rattle.theory.proofs.Reach.{step-shut}
 use Rattle.theory.proofs.OverlapMeaning.{only-one}
 use Rattle.theory.proofs.Shape.{parts-aux}
@@ -25,10 +25,6 @@ use Rattle.theory.proofs.Active.{active-high}
 -- RESULTS THAT MAY BE NONE, AND TESTS
 some-same : {A : Type 0} (a b : A) → some a ≡ some b → a ≡ b
 some-same a b e = Option·some-injective a b e
-
-then-some : {A B : Type 0} (o : Option A) (f : A → Option B) (b : B) → andThen o f ≡ some b → (a : A) × (o ≡ some a) × (f a ≡ some b)
-then-some none f b e = absurd (Option·none-ne-some b e)
-then-some (some a) f b e = (a, refl, e)
 
 pick-some : {A : Type 0} (b : Bool) (o : Option A) (a : A) → pick b o none ≡ some a → (b ≡ true) × (o ≡ some a)
 pick-some true o a e = (refl, e)

@@ -14,7 +14,7 @@ use Rattle.theory.specs.Tree.{Tree, Trees, var, node, Rule}
 use Rattle.theory.specs.Translation.{exnT, fireT, selectT, aux, tree, trees, patT, patTs, _⇒_, numbers, gather, raiseRule, handleRule, sameRule, otherRule, exnRules, variables, argRule, entryRule, ownRules, funRules, standing, ownList, rules}
 use Rattle.theory.specs.Overlap.{clash, clashes, overlap, overlaps, alone}
 use Rattle.theory.specs.Proper.{Distinct, AllIn, patVars, patsVars, termVars, termsVars, treeVars, treesVars, ProperDef, Apart, ProperDefs, Proper, ProperRule, ApartRule, ProperRules}
-use Rattle.theory.proofs.Tests.{and-left, and-right, T→true, leb-false, eqb-true, eqb-false, eq-of-eqb, ne-of-eqb}
+use Rattle.theory.proofs.Tests.{and-left, and-right, T→true, leb-false, eqb-true, eqb-false, eq-of-eqb, ne-of-eqb, is-false}
 use Rattle.theory.proofs.RootsHold.{elem-upto, headBelow, below}
 use Rattle.theory.proofs.PaperTranslation.{in-upto}
 
@@ -39,10 +39,6 @@ properRules [] = true
 properRules (r ∷ rs) = properRule r && (alone (r .lhs) rs && properRules rs)
 
 -- and what it means
-pub is-false : (b : Bool) → T (not b) → b ≡ false
-is-false true h = absurd h
-is-false false h = refl
-
 pub distinct-of : (xs : List ℕ) → T (distinct xs) → Distinct xs
 distinct-of [] h = tt
 distinct-of (x ∷ xs) h = (is-false (elem x xs) (and-left (not (elem x xs)) (distinct xs) h), distinct-of xs (and-right (not (elem x xs)) (distinct xs) h))

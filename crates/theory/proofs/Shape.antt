@@ -12,7 +12,11 @@ use Rattle.theory.specs.WellFormed.{WellFormed, AllWellFormed, DefsWellF
 use Rattle.theory.specs.Tree.{Tree, Trees, var, node, [·], _▹_, Subst, bindTree, noSubst, inst, insts, match, matches, Rule, filled, apply, firstFit, active, inside, first, later, step, stepPart, len}
 use Rattle.theory.specs.Words.{isVar, Shaped, Shapeds}
 use Rattle.theory.specs.Translation.{baseT, exnT, fireT, selectT, aux, tree, trees, patT, patTs, _⇒_, commonRules, numbers, gather, raiseRule, handleRule, sameRule, otherRule, exnRules, variables, argRule, ownRules, funRules, builtins, standing, ownList, rules}
-use Rattle.theory.proofs.Tests.{and-left, and-right, leb-true, leb-false, eqb-false}
+use Rattle.theory.proofs.Tests.{and-left, and-right, leb-true, leb-false, eqb-false, is-false}
+
+pub len-trees : (ts : Terms) → len (trees ts) ≡ many ts
+len-trees tnil = refl
+len-trees (tcons t ts) = ap suc (len-trees ts)
 
 module _ (parts : ℕ → ℕ) where
   abbrev pub ShapedO : Option Tree → Type 0
@@ -134,16 +138,12 @@ module _ (parts : ℕ → ℕ) where
     shapeds [·] = true
     shapeds (t ▹ ts) = shaped t && shapeds ts
 
-  not-true : (b : Bool) → T (not b) → b ≡ false
-  not-true true h = absurd h
-  not-true false h = refl
-
   mutual
     pub shaped-of : (t : Tree) → T (shaped t) → Shaped parts t
     shaped-of (var x) h = ltb→lt x 8 h
     shaped-of (node s ts) h =
         let r = and-right (not (isVar s)) (eqb (len ts) (parts s) && shapeds ts) h in
-        (not-true (isVar s) (and-left (not (isVar s)) (eqb (len ts) (parts s) && shapeds ts) h), eqb→eq (len ts) (parts s) (and-left (eqb (len ts) (parts s)) (shapeds ts) r), shapeds-of ts (and-right (eqb (len ts) (parts s)) (shapeds ts) r))
+        (is-false (isVar s) (and-left (not (isVar s)) (eqb (len ts) (parts s) && shapeds ts) h), eqb→eq (len ts) (parts s) (and-left (eqb (len ts) (parts s)) (shapeds ts) r), shapeds-of ts (and-right (eqb (len ts) (parts s)) (shapeds ts) r))
 
     pub shapeds-of : (ts : Trees) → T (shapeds ts) → Shapeds parts ts
     shapeds-of [·] h = tt
@@ -265,10 +265,6 @@ module _ (P : Program) where
   base-shaped zeroB = (refl, refl, tt)
   base-shaped trueB = (refl, refl, tt)
   base-shaped falseB = (refl, refl, tt)
-
-  len-trees : (ts : Terms) → len (trees ts) ≡ many ts
-  len-trees tnil = refl
-  len-trees (tcons t ts) = ap suc (len-trees ts)
 
   module _ (few : P .exns ≤ 16) where
     mutual

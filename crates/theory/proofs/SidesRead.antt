@@ -555,7 +555,7 @@ module _ (D : Declared) where
   low-pat (psucc p) h = low-pat p h
   low-pat (pvar x) h = h .0
 
-  low-pats : (ps : List Pat) → Each (λ x. x ≤ 7) (patsVars ps) → AllOverDeclared D (termsOf ps)
+  pub low-pats : (ps : List Pat) → Each (λ x. x ≤ 7) (patsVars ps) → AllOverDeclared D (termsOf ps)
   low-pats [] h = tt
   low-pats (p ∷ ps) h = (low-pat p (each-first (patVars p) (patsVars ps) h), low-pats ps (each-later (patVars p) (patsVars ps) h))
 

@@ -1,10 +1,12 @@
--- The computed tests on numbers as equations, both ways.
+-- The computed tests on numbers as equations, both ways, and what a choice by a test comes to.
 use Prim.Native.Nat.{ℕ, _<_, _≤_}
 use mathlib.Core.Path.{_≡_, refl, sym, ap, _∙_, subst}
 use mathlib.Core.Logic.{_≢_}
 use mathlib.Core.Bool.{Bool, true, false, not, _&&_, false≢true}
+use mathlib.Core.Option.{Option, none, some, Option·none-ne-some}
 use native.Mathlib.Omega.{arith}
 use lib.Dec.{T, eqb, leb, le→leb, leb→le, nleb→lt, eqb→eq, eqb-refl}
+use Rattle.theory.specs.Syntax.{pick, andThen}
 
 pub T→true : (b : Bool) → T b → b ≡ true
 T→true true t = refl
@@ -53,3 +55,28 @@ and-left false b t = t
 pub and-right : (a b : Bool) → T (a && b) → T b
 and-right true b t = t
 and-right false b t = absurd t
+
+pub and-both : (a b : Bool) → T a → T b → T (a && b)
+and-both true b h k = k
+and-both false b h k = h
+
+pub is-false : (b : Bool) → T (not b) → b ≡ false
+is-false true h = absurd h
+is-false false h = refl
+
+pub not-true : (b : Bool) → not b ≡ false → b ≡ true
+not-true true e = refl
+not-true false e = sym e
+
+pub not-false : (b : Bool) → not b ≡ true → b ≡ false
+not-false true e = sym e
+not-false false e = refl
+
+-- what holds of both choices holds of the one that is made
+pub pick-any : {A : Type 0} (P : A → Type 0) (t : Bool) (a b : A) → P a → P b → P (pick t a b)
+pick-any P true a b h g = h
+pick-any P false a b h g = g
+
+pub then-some : {A B : Type 0} (o : Option A) (f : A → Option B) (b : B) → andThen o f ≡ some b → (a : A) × (o ≡ some a) × (f a ≡ some b)
+then-some none f b e = absurd (Option·none-ne-some b e)
+then-some (some a) f b e = (a, refl, e)

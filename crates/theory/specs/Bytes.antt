@@ -1,10 +1,11 @@
 -- Rule programs and questions as bytes: what is refused, by which number and at which place, and what is read where nothing is.
 -- Document 01, "The bytes of a rule program" and "Refusal numbers and their order".
-use Prim.Native.Nat.{ℕ, zero, suc, _+_}
+use Prim.Native.Nat.{ℕ, zero, suc, _+_, _≤_, _<_}
+use mathlib.Core.Path.{_≡_}
 use mathlib.Core.Bool.{Bool, true, false, _||_, _&&_}
 use mathlib.Core.List.{List, [], _∷_, _++_}
 use lib.Dec.{eqb, leb, ltb}
-use lib.ListN.{length}
+use lib.ListN.{length, getD}
 use Rattle.theory.specs.Syntax.{Base, zeroB, trueB, falseB, Term, const, succ, tvar, raise, handle, cond, call, Terms, tnil, tcons, Pat, pbase, psucc, pvar, Def, Fun, Program, pick, choose, elem}
 use Rattle.theory.specs.Builtins.{builtinFuns, nthFun, program}
 use Rattle.theory.specs.Overlap.{overlaps}
@@ -110,6 +111,11 @@ abbrev pub nthArity : List ℕ → ℕ → ℕ
 nthArity [] i = 0
 nthArity (a ∷ ns) zero = a
 nthArity (a ∷ ns) (suc i) = nthArity ns i
+
+-- arities by function number are those of the built-in functions, 0 to 5, and of the declared ones, from 16 on
+pub record Agrees (D : Declared) (arities : List ℕ) : Type 0 where
+  pub builtin : (b : ℕ) → b ≤ 5 → getD arities b 0 ≡ nthFun builtinFuns b .arity
+  pub declared : (f : ℕ) → f < length (D .arities) → getD arities (16 + f) 0 ≡ nthArity (D .arities) f
 
 -- a record of a term by its kind and body: 3 no such kind, 4 a number too large or a thing not declared
 abbrev pub orRefuse4 : Bool → TermRecord → ℕ → Result TermRecord

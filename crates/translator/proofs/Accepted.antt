@@ -8,45 +8,27 @@ use native.Mathlib.Omega.{arith}
 use lib.ListN.{length, getD, drop, length-drop}
 use lib.Seq.{drop-drop, getD-drop, drop-append-seam, drop-append-add}
 use borrow.Author.Tests.{le-ltb}
+use Rattle.theory.proofs.Accepted.{length-funs}
+use Rattle.theory.proofs.SidesRead.{low-pats}
 use Rattle.theory.specs.Syntax.{Pat, pbase, psucc, pvar, many, Fun, pick}
 use Rattle.theory.specs.Builtins.{builtinFuns, nthFun, funOf, numbersOf}
 use Rattle.theory.specs.Tree.{Rule, _▹_}
 use Rattle.theory.specs.Proper.{patVars, patsVars}
 use Rattle.theory.specs.Words.{words, storedRules}
 use Rattle.theory.specs.Translation.{tree, trees, patT, patTs, succT, exnRules, funRules, gather, numbers, ownList}
-use Rattle.theory.specs.Bytes.{firstTerms, good, Declared, nthArity, RuleAt, Book, readProgram, defsOf, funsOf, programOf}
+use Rattle.theory.specs.Bytes.{firstTerms, good, Declared, nthArity, RuleAt, Book, readProgram, defsOf, funsOf, programOf, Agrees}
 use Rattle.theory.specs.Encoding.{encode, encodePats, encodeRule, encodeRules, encodeExns, encodeFuns, OverDeclared, AllOverDeclared, Each, ValidRule, OpenedFrom}
 use Rattle.theory.proofs.RecordsOfTerms.{termOf, termsOf, pats-many, pats-bytes, pats-words}
 use Rattle.theory.proofs.AcceptedExactly.{accepted-exactly}
 use Rattle.theory.proofs.Readability.{length-words}
-use Rattle.records.specs.Records.{Whole, spanOf, countOf, from, termsAt, termAt}
-use Rattle.records.specs.Agrees.{Agrees}
-use Rattle.records.proofs.Standing.{Standing, terms-stand, StandingOne, term-stands, question-stands}
+use Rattle.term_words.specs.Records.{Whole, spanOf, countOf, from, termsAt, termAt}
+use Rattle.term_words.proofs.Standing.{Standing, terms-stand, StandingOne, term-stands, question-stands}
 use Rattle.translator.specs.Opened.{rightAt}
 use Rattle.translator.specs.Listed.{Here, Stand, arityOf, rulesOf, rulesIn, Listed, Small}
 use Rattle.translator.specs.List.{funAt, rulesFor, ownIn}
 use Rattle.translator.specs.Accepted.{Accepted, Asked}
 use Rattle.theory.specs.Bytes.{openedAt}
 use Rattle.translator.proofs.Laws.{term-count}
-
--- left sides are terms over what is declared
-module _ (D : Declared) where
-  each-first : (xs ys : List ℕ) → Each (λ x. x ≤ 7) (xs ++ ys) → Each (λ x. x ≤ 7) xs
-  each-first [] ys h = tt
-  each-first (x ∷ xs) ys h = (h .0, each-first xs ys (h .1))
-
-  each-later : (xs ys : List ℕ) → Each (λ x. x ≤ 7) (xs ++ ys) → Each (λ x. x ≤ 7) ys
-  each-later [] ys h = h
-  each-later (x ∷ xs) ys h = each-later xs ys (h .1)
-
-  over-pat : (p : Pat) → Each (λ x. x ≤ 7) (patVars p) → OverDeclared D (termOf p)
-  over-pat (pbase b) h = tt
-  over-pat (psucc p) h = over-pat p h
-  over-pat (pvar x) h = h .0
-
-  over-pats : (ps : List Pat) → Each (λ x. x ≤ 7) (patsVars ps) → AllOverDeclared D (termsOf ps)
-  over-pats [] h = tt
-  over-pats (p ∷ ps) h = (over-pat p (each-first (patVars p) (patsVars ps) h), over-pats ps (each-later (patVars p) (patsVars ps) h))
 
 pat-tree : (p : Pat) → patT p ≡ tree (termOf p)
 pat-tree (pbase b) = refl
@@ -87,7 +69,7 @@ module _ (D : Declared) (arities : List ℕ) (h : Agrees D arities) (bytes : Lis
       sides = sym (drop-drop 2 p bytes) ∙ ap (drop 2) e ∙ append-assoc L R rest
 
       left-stands : Standing arities (drop (p + 2) bytes) (termsOf ps)
-      left-stands = terms-stand D arities h (termsOf ps) (over-pats D ps (v .left-variables)) (drop (p + 2) bytes) (R ++ rest) (sides ∙ ap (_++ (R ++ rest)) (sym (pats-bytes ps)))
+      left-stands = terms-stand D arities h (termsOf ps) (low-pats D ps (v .left-variables)) (drop (p + 2) bytes) (R ++ rest) (sides ∙ ap (_++ (R ++ rest)) (sym (pats-bytes ps)))
 
       arity : many (termsOf ps) ≡ arityOf arities r
       arity = pats-many ps ∙ v .arguments ∙ sym (h .declared (r .owner) (v .declared))
@@ -159,10 +141,6 @@ nth-fun f (a ∷ ns) rs zero h = let z : f ≡ f + 0 = omega arith in ap (λ (j 
 nth-fun f (a ∷ ns) rs (suc i) h =
     let z : suc f + i ≡ f + suc i = omega arith in
     nth-fun (suc f) ns rs i (omega arith) ∙ ap (λ (j : ℕ). record { arity = nthArity ns i; defs = defsOf j rs }) z
-
-length-funs : (f : ℕ) (ns : List ℕ) (rs : List RuleAt) → length (funsOf f ns rs) ≡ length ns
-length-funs f [] rs = refl
-length-funs f (a ∷ ns) rs = ap suc (length-funs (suc f) ns rs)
 
 gather-same : (F G : ℕ → List Rule) (m : ℕ) → ((i : ℕ) → i < m → F (16 + i) ≡ G i) → (gs : List Fun) (j : ℕ) → j + length gs ≤ m → gather F (numbersOf (16 + j) gs) ≡ gather G (numbers j (length gs))
 gather-same F G m h [] j l = refl

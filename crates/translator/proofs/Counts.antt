@@ -15,7 +15,7 @@ use Rattle.theory.proofs.Tests.{and-left, and-right, eq-of-eqb, ne-of-eqb}
 use Rattle.theory.proofs.Readability.{length-words}
 use Rattle.generated.specs.Wrote.{Wrote}
 use Rattle.generated.specs.CallRules.{callRules}
-use Rattle.records.specs.Records.{countOf, from, termsAt, termAt}
+use Rattle.term_words.specs.Records.{countOf, from, termsAt, termAt}
 use Rattle.translator.specs.Opened.{Opened, rightAt, ruleAt}
 use Rattle.translator.specs.Listed.{rulesIn, rulesWords}
 use Rattle.translator.specs.List.{rulesFor}

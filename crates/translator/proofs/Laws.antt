@@ -7,16 +7,16 @@ use native.Mathlib.Nat.{add-zero}
 use native.Mathlib.Omega.{arith}
 use lib.Dec.{eqb}
 use lib.ListN.{length, getD, drop, drop-of-length-le}
+use Rattle.theory.proofs.Lists.{drop-next}
 use Rattle.theory.specs.Syntax.{Term, Terms, tnil, tcons, many, pick, Def}
 use Rattle.theory.specs.Tree.{Trees, node, size, sizes}
 use Rattle.theory.specs.Words.{words, allWords, storedRule, storedRules}
 use Rattle.theory.specs.Translation.{aux, tree, trees, patTs, ownRules, _⇒_}
 use Rattle.theory.specs.Bytes.{TermRecord, firstTerms, nthTerm, termsFrom, RuleAt, defsOf}
 use Rattle.theory.proofs.Tests.{eq-of-eqb, eqb-true, eqb-false}
-use Rattle.words.proofs.Skips.{drop-next}
-use Rattle.records.specs.Records.{Whole, countOf, from, termsAt, termAt}
-use Rattle.records.proofs.Laws.{whole-many}
-use Rattle.records.proofs.Count.{count-words}
+use Rattle.term_words.specs.Records.{Whole, countOf, from, termsAt, termAt}
+use Rattle.term_words.proofs.Laws.{whole-many}
+use Rattle.term_words.proofs.Count.{count-words}
 use Rattle.generated.specs.Wrote.{Room, Wrote}
 use Rattle.generated.specs.CallRules.{callRules}
 use Rattle.generated.proofs.Writes.{list-append, wrote-none, wrote-as, wrote-then, room-as, room-first, room-then}

@@ -6,8 +6,7 @@ use lib.ListN.{length}
 use Rattle.theory.specs.Syntax.{Term}
 use Rattle.theory.specs.Words.{words, storedRules}
 use Rattle.theory.specs.Translation.{tree, ownList}
-use Rattle.theory.specs.Bytes.{good, Declared, Book, openedAt, readProgram, programOf, readQuestion}
-use Rattle.records.specs.Agrees.{Agrees}
+use Rattle.theory.specs.Bytes.{good, Declared, Book, openedAt, readProgram, programOf, readQuestion, Agrees}
 
 -- the program is accepted; the arities by function number, the openings and the two numbers are those that are read
 pub record Accepted (arities program openings : List ℕ) (exceptions functions : ℕ) : Type 0 where

@@ -6,7 +6,7 @@ use lib.ListN.{length, getD}
 use Rattle.theory.specs.Words.{storedRules}
 use Rattle.theory.specs.Translation.{trees, patTs, ownRules}
 use Rattle.theory.specs.Bytes.{Result, refused, good, Book, RuleAt, firstTerms, defsOf, readProgram}
-use Rattle.records.specs.Records.{termsAt, termAt}
+use Rattle.term_words.specs.Records.{termsAt, termAt}
 use Rattle.translator.specs.Opened.{Opened, rightAt}
 
 abbrev pub arityOf : List ℕ → RuleAt → ℕ

@@ -9,7 +9,7 @@ use Rattle.theory.specs.Tree.{node, Rule}
 use Rattle.theory.specs.Words.{storedRule}
 use Rattle.theory.specs.Translation.{aux, tree, trees, _⇒_}
 use Rattle.theory.specs.Bytes.{firstTerms}
-use Rattle.records.specs.Records.{Whole, spanOf, countOf, from, termsAt, termAt}
+use Rattle.term_words.specs.Records.{Whole, spanOf, countOf, from, termsAt, termAt}
 
 -- where the right side begins, if the function has n arguments
 abbrev pub rightAt : List ℕ → List ℕ → ℕ → ℕ → ℕ

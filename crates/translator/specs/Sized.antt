@@ -1,7 +1,7 @@
 -- The sizes of a rule's sides, and where the right one begins.
 use Prim.Native.Nat.{ℕ, _+_}
 use mathlib.Core.List.{List}
-use Rattle.records.specs.Records.{countOf, from}
+use Rattle.term_words.specs.Records.{countOf, from}
 use Rattle.translator.specs.declared.rules.Sizes.{Sizes}
 use Rattle.translator.specs.Opened.{rightAt}
 

@@ -78,7 +78,7 @@ pub fn question_length(arities: &[u8], question: &[u8]) -> usize
     requires { ⌜ Asked (now arities) (now question) ⌝ }
     ensures { λ r. ⌜ OfQuestion (now (arities .entry)) (now (question .entry)) (λ ws. r ≡ length ws) ⌝ }
 {
-    let ends = records::terms::size_of(arities, question, 0, 1);
+    let ends = term_words::terms::size_of(arities, question, 0, 1);
     ends.to
 }
 
@@ -89,6 +89,6 @@ pub fn question_words(arities: &[u8], question: &[u8], dst: &mut [u16]) -> usize
     ensures { λ r. ⌜ OfQuestion (now (arities .entry)) (now (question .entry)) (λ ws. r ≡ length ws) ⌝ }
     ensures { λ _. ⌜ OfQuestion (now (arities .entry)) (now (question .entry)) (λ ws. now (dst .exit) ≡ over ws (now (dst .entry))) ⌝ }
 {
-    let ends = records::terms::term_words(arities, question, 0, dst, 0);
+    let ends = term_words::terms::term_words(arities, question, 0, dst, 0);
     ends.to
 }

@@ -1,5 +1,5 @@
 -- Where a left side that fits leads, read off the ends of its variables' parts, is the end of the tree that stands there.
-use mathlib.Core.Path.{_≡_, refl, sym, ap, subst, _∙_}
+use mathlib.Core.Path.{_≡_, refl, sym, ap, _∙_}
 use mathlib.Core.Logic.{_⊎_, inl, inr}
 use mathlib.Core.Bool.{Bool, true, false, false≢true}
 use mathlib.Core.List.{List, [], _∷_, _++_, append-assoc, append-nil}
@@ -17,7 +17,7 @@ use Rattle.theory.proofs.Readability.{isVar-word}
 use Rattle.words.specs.declared.terms.Reach.{Reach}
 use Rattle.words.specs.declared.terms.Reach.the-variants.{End, Short}
 use Rattle.words.specs.Terms.{arityOf, past, skipAt}
-use Rattle.words.proofs.Skips.{past-none, past-step, skip-then}
+use Rattle.words.proofs.Skips.{past-none, past-step, skip-then, never}
 use Rattle.words.proofs.Trees.{skip-tree}
 use Rattle.rules.specs.Matching.{takes, reached, fits, noted, binds}
 use Rattle.rules.proofs.Takes.{isVar-slot, takes-var}
@@ -49,9 +49,6 @@ noted-there E p x l v =
     let s = isVar-slot p v .1 in
     let i : p - 64 < length E = omega (arith, s, l) in
     ap (λ (e : List ℕ). getD e (p - 64) 0) (noted-var E p x v) ∙ getD-set-same E (p - 64) x 0 i
-
-never : {A : Type 0} (q : ℕ) → Short ≡ End q → A
-never q e = absurd (let z : _≡_ {A = ℕ} 0 1 = cc in omega arith)
 
 module _ (ks ss : List ℕ) where
   -- the place past what the words of a left side take

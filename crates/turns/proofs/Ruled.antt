@@ -1,7 +1,7 @@
 -- The laws of a rule's use and of the next term.
 use mathlib.Core.Path.{_≡_, refl, sym, ap, ap₂, subst, _∙_}
 use mathlib.Core.Bool.{Bool, true, false}
-use mathlib.Core.Option.{Option, none, some}
+use mathlib.Core.Option.{Option, none, some, Option·none-ne-some}
 use mathlib.Core.List.{List, [], _∷_, _++_}
 use Prim.Native.Nat.{ℕ, zero, suc, _+_, _-_, _≤_, _<_}
 use native.Mathlib.Omega.{arith}
@@ -9,12 +9,13 @@ use lib.Dec.{eqb, ltb}
 use lib.ListN.{length, getD, take, drop, set, replicate, drop-of-length-le, length-append}
 use lib.Seq.{length-take-le, take-at}
 use borrow.Author.Tests.{lt-ltb, le-ltb, ltb-true}
+use Rattle.theory.proofs.Lists.{drop-next}
 use Rattle.theory.specs.Syntax.{pick}
 use Rattle.theory.specs.Words.{isVar}
 use Rattle.words.specs.declared.terms.Reach.{Reach}
 use Rattle.words.specs.declared.terms.Reach.the-variants.{End, Short}
 use Rattle.words.specs.Terms.{skipAt}
-use Rattle.words.proofs.Skips.{skip-reach, drop-next}
+use Rattle.words.proofs.Skips.{skip-reach, never}
 use Rattle.rules.specs.Matching.{takes, reached, noted, binds}
 use Rattle.rules.specs.declared.matching.Bound.{Bound}
 use Rattle.place.specs.Path.{siteAt}
@@ -72,9 +73,6 @@ noted-inside slots p x n h k = go (isVar p)
     go : (b : Bool) → Inside (pick b (set slots (p - 64) x) slots) n
     go true = set-inside slots (p - 64) x n h k
     go false = h
-
-never : {A : Type 0} (q : ℕ) → Short ≡ End q → A
-never q e = absurd (let z : _≡_ {A = ℕ} 0 1 = cc in omega arith)
 
 takes-inside : (ks ss : List ℕ) (p j e : ℕ) → takes ks ss p j ≡ End e → e ≤ length ss
 unfolding takes
@@ -203,13 +201,10 @@ ruled-front ks rule ws p u e h = go (ltb (length rule) 2) (ltb (length rule) (2 
     tail : List ℕ
     tail = new (part p (length ws) ws) (boundBy ks rule (part p (length ws) ws) .starts) (boundBy ks rule (part p (length ws) ws) .ends) (right rule) ++ drop (endOf ks rule ws p) ws
 
-    never-some : {A : Type 0} → none ≡ some u → A
-    never-some e = absurd (let z : _≡_ {A = ℕ} 0 1 = cc in omega arith)
-
     go : (a b c : Bool) → pick a none (pick b none (pick c none (some (take p ws ++ tail)))) ≡ some u → (take p u ≡ take p ws) × (p ≤ length u)
-    go true b c e = never-some e
-    go false true c e = never-some e
-    go false false true e = never-some e
+    go true b c e = absurd (Option·none-ne-some u e)
+    go false true c e = absurd (Option·none-ne-some u e)
+    go false false true e = absurd (Option·none-ne-some u e)
     go false false false e =
         let same : u ≡ take p ws ++ tail = cc in
         let l : length (take p ws) ≡ p = length-take-le p ws h in

@@ -5,12 +5,12 @@ use mathlib.Core.Logic.{_≢_}
 use mathlib.Core.List.{List, [], _∷_}
 use Prim.Native.Nat.{ℕ, zero, suc, _+_, _-_, _≤_, _<_}
 use native.Mathlib.Nat.{add-assoc, suc-add, zero-add, add-zero}
-use native.Mathlib.Numerals.{add-one}
 use native.Mathlib.Omega.{arith}
 use lib.Dec.{eqb}
 use lib.ListN.{length, getD, take, drop, length-drop, drop-of-length-le}
-use lib.Seq.{drop-drop, drop-cons}
+use lib.Seq.{drop-drop}
 use borrow.Author.Tests.{lt-ltb, le-ltb}
+use Rattle.theory.proofs.Lists.{drop-next}
 use Rattle.theory.specs.Syntax.{pick}
 use Rattle.theory.proofs.Tests.{eqb-true, eqb-false, ne-of-eqb, eq-of-eqb}
 use Rattle.words.specs.declared.terms.Reach.{Reach}
@@ -21,9 +21,8 @@ use Rattle.words.specs.Terms.{arityOf, past, skipAt, succsEnd, partIn, p
 pub short-end : (o : Reach) (q : ℕ) → o ≡ Short → o ≡ End q → ⊥
 short-end o q h e = let z : _≡_ {A = ℕ} 0 1 = cc in omega arith
 
--- the words from p on are the word at p and those from p + 1 on
-pub drop-next : (ws : List ℕ) (p : ℕ) → p < length ws → drop p ws ≡ getD ws p 0 ∷ drop (p + 1) ws
-drop-next ws p h = rw add-one (drop-cons ws p 0 h)
+pub never : {A : Type 0} (q : ℕ) → Short ≡ End q → A
+never q e = absurd (short-end Short q refl e)
 
 -- no term is asked for
 pub past-none : (ar : ℕ → ℕ) (l : List ℕ) (p : ℕ) → past ar l 0 p ≡ End p

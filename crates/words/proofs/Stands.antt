@@ -5,7 +5,8 @@ use Prim.Native.Nat.{ℕ, suc, _+_, _-_, _<_}
 use native.Mathlib.Omega.{arith}
 use borrow.Author.Tests.{lt-ltb}
 use lib.ListN.{length, drop}
-use lib.Seq.{drop-drop, take-append-seam, drop-append-seam}
+use lib.Seq.{take-append-seam}
+use Rattle.theory.proofs.Lists.{past-it}
 use Rattle.theory.specs.Tree.{Tree, Trees, node, size, len}
 use Rattle.theory.specs.Words.{words, allWords, Shaped, Shapeds}
 use Rattle.theory.proofs.Readability.{length-words}
@@ -16,9 +17,6 @@ use Rattle.words.proofs.Skips.{past-none}
 use Rattle.words.proofs.Trees.{past-words, skip-tree}
 
 -- past a list of words that stands at p
-past-it : (ws xs ys : List ℕ) (p : ℕ) → drop p ws ≡ xs ++ ys → drop (p + length xs) ws ≡ ys
-past-it ws xs ys p e = sym (drop-drop (length xs) p ws) ∙ ap (drop (length xs)) e ∙ drop-append-seam xs ys
-
 -- where a tree stands it is skipped exactly, and is the term at that place
 pub stands-skip : (ks ws : List ℕ) (p : ℕ) (t : Tree) → Shaped (arityOf ks) t → Stands ws p t → skipAt ks ws p ≡ End (p + size t)
 stands-skip ks ws p t h s = skip-tree ks ws p t (s .rest) h (s .front)

@@ -8,9 +8,9 @@ use native.Mathlib.Omega.{arith}
 use lib.ListN.{length, getD, take, drop, drop-of-length-le, List·getD-eq-default}
 use lib.Seq.{take-suc}
 use borrow.Author.Tests.{eq-eqb, ne-eqb, le-leb, lt-leb}
+use Rattle.theory.proofs.Lists.{drop-next}
 use Rattle.checker.specs.declared.overlap.Overlap.the-variants.{At, Nowhere}
 use Rattle.checker.specs.Overlap.{patLen, headsMeet, argsMeet, clashAt, anyClash, firstClash}
-use Rattle.record.proofs.Laws.{drop-next}
 
 module _ (ws : List ℕ) (p : ℕ) where
   pub pat-out : length ws ≤ p → p + patLen (drop p ws) ≡ p

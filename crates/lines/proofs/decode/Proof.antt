@@ -2,7 +2,8 @@
 use borrow.Author.Needs.{needs}
 use mathlib.Core.Path.{sym, _∙_}
 use native.Mathlib.Omega.{arith}
-use Rattle.lines.proofs.Laws.{readable-sound, decoded-bad, written-bad, decoded-good, written-good, fits-after, not-false, not-true}
+use Rattle.theory.proofs.Tests.{not-true, not-false}
+use Rattle.lines.proofs.Laws.{readable-sound, decoded-bad, written-bad, decoded-good, written-good, fits-after}
 use Rattle.lines.proofs.decode.Statement.{statement}
 use Rattle.lines.proofs.decode.Tie as tie
 

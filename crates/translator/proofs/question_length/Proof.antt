@@ -5,7 +5,7 @@ use lib.ListN.{length}
 use Rattle.theory.specs.Syntax.{Term}
 use Rattle.theory.specs.Words.{words}
 use Rattle.theory.specs.Translation.{tree}
-use Rattle.records.proofs.Standing.{question-stands}
+use Rattle.term_words.proofs.Standing.{question-stands}
 use Rattle.translator.proofs.Accepted.{asked-asks}
 use Rattle.translator.proofs.question_length.Statement.{statement}
 use Rattle.translator.proofs.question_length.Tie as tie

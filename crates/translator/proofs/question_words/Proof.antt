@@ -7,7 +7,7 @@ use Rattle.theory.specs.Syntax.{Term}
 use Rattle.theory.specs.Buffers.{over}
 use Rattle.theory.specs.Words.{words}
 use Rattle.theory.specs.Translation.{tree}
-use Rattle.records.proofs.Standing.{question-stands}
+use Rattle.term_words.proofs.Standing.{question-stands}
 use Rattle.translator.proofs.question_words.Statement.{statement}
 use Rattle.translator.proofs.question_words.Tie as tie
 

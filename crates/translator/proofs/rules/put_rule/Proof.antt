@@ -6,7 +6,7 @@ use Rattle.theory.specs.Words.{words}
 use Rattle.theory.specs.Translation.{aux, tree}
 use Rattle.generated.specs.Wrote.{Room, Wrote}
 use Rattle.generated.proofs.Writes.{wrote-as, wrote-then, room-as, room-first, room-then}
-use Rattle.records.specs.Records.{Whole, countOf, from, termAt}
+use Rattle.term_words.specs.Records.{Whole, countOf, from, termAt}
 use Rattle.translator.specs.declared.rules.Sizes.{Sizes}
 use Rattle.translator.specs.Opened.{rightAt}
 use Rattle.translator.proofs.Laws.{headWords, leftWords, rightWords, rule-words}

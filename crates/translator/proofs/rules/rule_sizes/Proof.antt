@@ -2,7 +2,7 @@
 use mathlib.Core.Path.{_≡_, sym, ap, ap₂, _∙_, subst}
 use Prim.Native.Nat.{ℕ, _+_, _<_}
 use native.Mathlib.Omega.{arith}
-use Rattle.records.specs.Records.{Whole, countOf, from}
+use Rattle.term_words.specs.Records.{Whole, countOf, from}
 use Rattle.translator.specs.declared.rules.Sizes.{Sizes}
 use Rattle.translator.specs.Opened.{rightAt}
 use borrow.Author.Needs.{needs}

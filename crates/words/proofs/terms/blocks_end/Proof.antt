@@ -1,10 +1,9 @@
 -- `terms::blocks_end` meets its contract. The loop's invariant: the run ends where it ends from i on.
-use mathlib.Core.Path.{_≡_, refl, sym, _∙_}
-use mathlib.Core.Bool.{Bool, true, false, not}
+use mathlib.Core.Path.{_≡_, refl, _∙_}
 use Prim.Native.Nat.{_-_}
-use native.Mathlib.Omega.{arith}
 use borrow.Author.Needs.{needs}
 use lib.ListN.{length, drop}
+use Rattle.theory.proofs.Tests.{not-true}
 use Rattle.words.specs.Terms.{succsEnd}
 use Rattle.words.proofs.terms.blocks_end.Statement.{statement}
 use Rattle.words.proofs.terms.blocks_end.Tie as tie
@@ -14,10 +13,6 @@ Inv-loop words at i₀ i = succsEnd (drop at words) at ≡ succsEnd (drop i word
 
 abbrev μ-loop : tie.MeasureT-loop
 μ-loop words at i₀ i = length words - i
-
-passed : (b : Bool) → not b ≡ false → b ≡ true
-passed true e = refl
-passed false e = sym e
 
 loop-holds : tie.Need-loop-holds Inv-loop μ-loop
 loop-holds c = refl
@@ -41,7 +36,7 @@ loop-less : tie.Need-loop-less Inv-loop μ-loop
 loop-less c = search needs
 
 loop-again : tie.Need-loop-again Inv-loop μ-loop
-loop-again c = c .before .before .before .before .loop .inv ∙ c .before .are-succs .ensures (passed _ (c .if2 .left))
+loop-again c = c .before .before .before .before .loop .inv ∙ c .before .are-succs .ensures (not-true _ (c .if2 .left))
 
 returns-3 : tie.Need-returns-3 Inv-loop μ-loop
 returns-3 c = search needs

@@ -1,10 +1,14 @@
--- The numbers that are in a list, and in two lists one after the other.
-use Prim.Native.Nat.{ℕ}
-use mathlib.Core.Path.{_≡_, refl, ap, _∙_, subst}
+-- Lists of numbers: what is in them, and what stands from a place on.
+use Prim.Native.Nat.{ℕ, _+_, _<_}
+use mathlib.Core.Path.{_≡_, refl, sym, ap, _∙_, subst}
 use mathlib.Core.Logic.{_⊎_, inl, inr, ⊎-elim}
 use mathlib.Core.Bool.{Bool, true, false, _||_, false≢true}
 use mathlib.Core.List.{List, [], _∷_, _++_}
+use native.Mathlib.Numerals.{add-one}
+use native.Mathlib.Omega.{arith}
 use lib.Dec.{eqb}
+use lib.ListN.{length, getD, drop}
+use lib.Seq.{drop-cons, drop-drop, drop-append-seam}
 use Rattle.theory.specs.Syntax.{elem}
 use Rattle.theory.specs.Proper.{AllIn}
 use Rattle.theory.proofs.Tests.{eq-of-eqb}
@@ -38,3 +42,15 @@ pub all-in : (xs ys : List ℕ) → AllIn xs ys → (x : ℕ) → elem x xs ≡ 
 all-in [] ys h x e = absurd (false≢true e)
 all-in (y ∷ xs) ys h x e =
     ⊎-elim (λ p. subst (λ (z : ℕ). elem z ys ≡ true) (eq-of-eqb y x p) (h .0)) (all-in xs ys (h .1) x) (or-true (eqb y x) (elem x xs) e)
+
+pub none-left : (l : List ℕ) → length l ≡ 0 → l ≡ []
+none-left [] e = refl
+none-left (x ∷ l) e = absurd (omega (arith, e))
+
+-- the numbers from the place p on are the one at p and those from p + 1 on
+pub drop-next : (ws : List ℕ) (p : ℕ) → p < length ws → drop p ws ≡ getD ws p 0 ∷ drop (p + 1) ws
+drop-next ws p h = rw add-one (drop-cons ws p 0 h)
+
+-- where xs stand at the place p, what stands behind them
+pub past-it : (ws xs ys : List ℕ) (p : ℕ) → drop p ws ≡ xs ++ ys → drop (p + length xs) ws ≡ ys
+past-it ws xs ys p e = sym (drop-drop (length xs) p ws) ∙ ap (drop (length xs)) e ∙ drop-append-seam xs ys

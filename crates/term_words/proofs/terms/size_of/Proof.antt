@@ -6,11 +6,11 @@ use borrow.Author.Needs.{needs}
 use lib.ListN.{length}
 use lib.Dec.{eqb}
 use Rattle.theory.specs.Syntax.{pick}
-use Rattle.records.specs.Records.{Whole, from}
-use Rattle.records.proofs.Laws.{rooted, whole-first}
-use Rattle.records.proofs.Count.{Going, going-start, going-turn, going-end}
-use Rattle.records.proofs.terms.size_of.Statement.{statement}
-use Rattle.records.proofs.terms.size_of.Tie as tie
+use Rattle.term_words.specs.Records.{Whole, from}
+use Rattle.term_words.proofs.Laws.{rooted, whole-first}
+use Rattle.term_words.proofs.Count.{Going, going-start, going-turn, going-end}
+use Rattle.term_words.proofs.terms.size_of.Statement.{statement}
+use Rattle.term_words.proofs.terms.size_of.Tie as tie
 
 abbrev Inv-loop : tie.InvT-loop
 Inv-loop arities bytes p n owed₀ next₀ count₀ owed next count = Going arities bytes p n owed next count

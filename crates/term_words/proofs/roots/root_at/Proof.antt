@@ -2,12 +2,12 @@
 use mathlib.Core.Path.{ap, _∙_}
 use Prim.Native.Nat.{ℕ, _+_}
 use native.Mathlib.Omega.{arith}
-use Rattle.records.specs.Records.{longRecord}
-use Rattle.records.specs.Roots.{rootOf}
-use Rattle.records.proofs.Laws.{next-inside, root-plain, root-long}
+use Rattle.term_words.specs.Records.{longRecord}
+use Rattle.term_words.specs.Roots.{rootOf}
+use Rattle.term_words.proofs.Laws.{next-inside, root-plain, root-long}
 use borrow.Author.Needs.{needs}
-use Rattle.records.proofs.roots.root_at.Statement.{statement}
-use Rattle.records.proofs.roots.root_at.Tie as tie
+use Rattle.term_words.proofs.roots.root_at.Statement.{statement}
+use Rattle.term_words.proofs.roots.root_at.Tie as tie
 
 record-at-requires : tie.Need-record-at-requires
 record-at-requires c κs = search needs

@@ -13,25 +13,25 @@ use Rattle.theory.specs.Translation.{tree, trees}
 use Rattle.theory.specs.Bytes.{firstTerms, laterTerms, nthTerm}
 use Rattle.generated.specs.Wrote.{Room}
 use Rattle.generated.proofs.Writes.{wrote-none, wrote-as, wrote-then, wrote-length, room-as, room-first, room-then}
-use Rattle.records.specs.Records.{Whole, from, termsAt, termAt, Passed}
-use Rattle.records.specs.Roots.{rootWords, handled}
-use Rattle.records.proofs.Laws.{Rooted, rooted, root-first, whole-first, whole-behind, second-behind, terms-first, terms-more, passed-none, passed-then, passed-more}
+use Rattle.term_words.specs.Records.{Whole, from, termsAt, termAt, Passed}
+use Rattle.term_words.specs.Roots.{rootWords, handled}
+use Rattle.term_words.proofs.Laws.{Rooted, rooted, root-first, whole-first, whole-behind, second-behind, terms-first, terms-more, passed-none, passed-then, passed-more}
 use borrow.Fn.Kinds.{In}
 use borrow.Fn.PlainCycle.{Measures, is, falls, and}
-use Rattle.records.proofs.terms.handle_words.Reads as handle-words
-use Rattle.records.proofs.terms.handle_words.Kinds as handle-words-kinds
-use Rattle.records.proofs.terms.+handle_words+term_words+terms_words.Lts-handle_words as handle-words-lts
-use Rattle.records.proofs.terms.term_words.Reads as term-words
-use Rattle.records.proofs.terms.term_words.Kinds as term-words-kinds
-use Rattle.records.proofs.terms.+handle_words+term_words+terms_words.Lts-term_words as term-words-lts
-use Rattle.records.proofs.terms.terms_words.Reads as terms-words
-use Rattle.records.proofs.terms.terms_words.Kinds as terms-words-kinds
-use Rattle.records.proofs.terms.+handle_words+term_words+terms_words.Lts-terms_words as terms-words-lts
+use Rattle.term_words.proofs.terms.handle_words.Reads as handle-words
+use Rattle.term_words.proofs.terms.handle_words.Kinds as handle-words-kinds
+use Rattle.term_words.proofs.terms.+handle_words+term_words+terms_words.Lts-handle_words as handle-words-lts
+use Rattle.term_words.proofs.terms.term_words.Reads as term-words
+use Rattle.term_words.proofs.terms.term_words.Kinds as term-words-kinds
+use Rattle.term_words.proofs.terms.+handle_words+term_words+terms_words.Lts-term_words as term-words-lts
+use Rattle.term_words.proofs.terms.terms_words.Reads as terms-words
+use Rattle.term_words.proofs.terms.terms_words.Kinds as terms-words-kinds
+use Rattle.term_words.proofs.terms.+handle_words+term_words+terms_words.Lts-terms_words as terms-words-lts
 use Rattle.generated.proofs.writing.put_words.Reads as put-words-reads
-use Rattle.records.proofs.terms.put_root.Reads as put-root-reads
-use Rattle.records.proofs.roots.root_at.Reads as root-at-reads
-use Rattle.records.proofs.terms.+handle_words+term_words+terms_words.{statement}
-use Rattle.records.proofs.terms.+handle_words+term_words+terms_words.Tie.{close}
+use Rattle.term_words.proofs.terms.put_root.Reads as put-root-reads
+use Rattle.term_words.proofs.roots.root_at.Reads as root-at-reads
+use Rattle.term_words.proofs.terms.+handle_words+term_words+terms_words.{statement}
+use Rattle.term_words.proofs.terms.+handle_words+term_words+terms_words.Tie.{close}
 
 abbrev μ-handle-words : Measures 3 handle-words-kinds.ps ℕ
 μ-handle-words κs a = 2 * (length (a .1 .0 .now) - a .1 .1 .0) + 1

@@ -2,8 +2,8 @@
 use mathlib.Core.Path.{sym}
 use lib.ListN.{List·getD-eq-default}
 use borrow.Author.Needs.{needs}
-use Rattle.records.proofs.roots.arity.Statement.{statement}
-use Rattle.records.proofs.roots.arity.Tie as tie
+use Rattle.term_words.proofs.roots.arity.Statement.{statement}
+use Rattle.term_words.proofs.roots.arity.Tie as tie
 
 shared-slice-read-result : tie.Need-shared-slice-read-result
 shared-slice-read-result c = search needs

@@ -13,10 +13,10 @@ use Rattle.theory.specs.Translation.{tree, trees}
 use Rattle.theory.specs.Bytes.{TermRecord, constantRecord, succRecord, ifRecord, variableRecord, raiseRecord, handleRecord, callRecord, recordParts, recordWords, firstTerms, laterTerms, termFrom, termsFrom}
 use Rattle.theory.proofs.Tests.{eqb-false}
 use Rattle.record.specs.Record.{recordAt}
-use Rattle.records.specs.declared.roots.Root.{Root}
-use Rattle.records.specs.Records.{recordsPast, recordBytes, Whole, after, spanOf, countOf, from, Passed}
-use Rattle.records.specs.Roots.{exceptionOf, termRecordAt, rootAt}
-use Rattle.records.proofs.Laws.{whole-split, whole-many, whole-first, record-there, record-inside, after-none, span-none, count-none}
+use Rattle.term_words.specs.declared.roots.Root.{Root}
+use Rattle.term_words.specs.Records.{recordsPast, recordBytes, Whole, after, spanOf, countOf, from, Passed}
+use Rattle.term_words.specs.Roots.{exceptionOf, termRecordAt, rootAt}
+use Rattle.term_words.proofs.Laws.{whole-split, whole-many, whole-first, record-there, record-inside, after-none, span-none, count-none}
 
 -- a term's words: its root's and its parts'
 size-make : (k : TermRecord) (ts : Terms) → recordParts k ≤ many ts → size (tree (termFrom k ts)) ≡ recordWords k + sizes (trees (firstTerms (recordParts k) ts))

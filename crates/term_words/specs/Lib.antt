@@ -1,4 +1,3 @@
 -- Definitions that the contracts cite.
 pub mod Records
 pub mod Roots
-pub mod Agrees

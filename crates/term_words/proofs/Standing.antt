@@ -11,15 +11,14 @@ use lib.Dec.{ltb}
 use lib.ListN.{length, length-append}
 use borrow.Author.Tests.{lt-ltb, le-ltb}
 use Rattle.theory.specs.Syntax.{zeroB, trueB, falseB, Term, succ, handle, cond, call, Terms, tnil, tcons, many, pick}
-use Rattle.theory.specs.Bytes.{TermRecord, constantRecord, succRecord, ifRecord, variableRecord, raiseRecord, handleRecord, callRecord, recordParts, recordWords, firstTerms, laterTerms, nthTerm, termFrom, termsFrom, bodyLength, withBody, good, Declared, readQuestion}
+use Rattle.theory.specs.Bytes.{TermRecord, constantRecord, succRecord, ifRecord, variableRecord, raiseRecord, handleRecord, callRecord, recordParts, recordWords, firstTerms, laterTerms, nthTerm, termFrom, termsFrom, bodyLength, withBody, good, Declared, readQuestion, Agrees}
 use Rattle.theory.specs.Encoding.{callBytes, encode, encodes, termWords, termsWords, OverDeclared, AllOverDeclared}
 use Rattle.theory.proofs.Accepted.{TokOk, AllTok, Balanced}
 use Rattle.theory.proofs.RecordsOfTerms.{bytesTok, bytesToks, wordsToks, flats, flats-bytes, flats-words, flats-ok, flats-due, flats-build}
 use Rattle.theory.proofs.AcceptedExactly.{question-accepted-exactly}
 use Rattle.record.specs.Record.{recordOf, recordAt}
-use Rattle.records.specs.Records.{plainRecord, longRecord, recordThen, recordsPast, recordsFrom, recordBytes, Whole, spanOf, countOf, from, termAt}
-use Rattle.records.specs.Agrees.{Agrees}
-use Rattle.records.proofs.Laws.{span-none, count-none}
+use Rattle.term_words.specs.Records.{plainRecord, longRecord, recordThen, recordsPast, recordsFrom, recordBytes, Whole, spanOf, countOf, from, termAt}
+use Rattle.term_words.proofs.Laws.{span-none, count-none}
 
 -- ONE RECORD, without a body and with one
 records-plain : (arities : List ℕ) (k : ℕ) (l : List ℕ) → bodyLength k ≡ 0 → recordsFrom arities (k ∷ l) ≡ plainRecord k ∷ recordsFrom arities l

@@ -1,7 +1,7 @@
 -- `terms::word_count` meets its contract.
 use borrow.Author.Tests.{eq-eqb, ne-eqb}
-use Rattle.records.proofs.terms.word_count.Statement.{statement}
-use Rattle.records.proofs.terms.word_count.Tie as tie
+use Rattle.term_words.proofs.terms.word_count.Statement.{statement}
+use Rattle.term_words.proofs.terms.word_count.Tie as tie
 
 returns : tie.Need-returns
 returns c = simp (eq-eqb _ _ (c .if1 .taken))

@@ -17,9 +17,9 @@ use Rattle.theory.proofs.Tests.{eqb-false, eq-of-eqb, ne-of-eqb}
 use Rattle.record.specs.declared.Record.{Record}
 use Rattle.record.specs.Record.{recordAt}
 use Rattle.record.proofs.Laws.{record-most}
-use Rattle.records.specs.Records.{plainRecord, longRecord, termRecordOf, recordThen, recordsPast, recordsFrom, recordBytes, Whole, after, spanOf, countOf, from, termsAt, termAt, Passed}
-use Rattle.records.specs.Roots.{wordOf, exceptionOf, termRecordAt, rootOf, rootAt, rootWords, handled}
-use Rattle.records.specs.declared.roots.Root.{Root}
+use Rattle.term_words.specs.Records.{plainRecord, longRecord, termRecordOf, recordThen, recordsPast, recordsFrom, recordBytes, Whole, after, spanOf, countOf, from, termsAt, termAt, Passed}
+use Rattle.term_words.specs.Roots.{wordOf, exceptionOf, termRecordAt, rootOf, rootAt, rootWords, handled}
+use Rattle.term_words.specs.declared.roots.Root.{Root}
 
 -- a record has one byte or two
 pick-bytes : (b : Bool) (x y : TermRecord) (n : ℕ) → recordBytes x ≡ n → recordBytes y ≡ n → recordBytes (pick b x y) ≡ n

@@ -3,8 +3,8 @@ use mathlib.Core.Path.{ap₂, _∙_}
 use Prim.Native.Nat.{ℕ}
 use borrow.Author.Tests.{eq-eqb, ne-eqb}
 use borrow.Author.Needs.{needs}
-use Rattle.records.proofs.roots.long_root.Statement.{statement}
-use Rattle.records.proofs.roots.long_root.Tie as tie
+use Rattle.term_words.proofs.roots.long_root.Statement.{statement}
+use Rattle.term_words.proofs.roots.long_root.Tie as tie
 
 add-rooted : tie.Need-add-rooted
 add-rooted c = search needs

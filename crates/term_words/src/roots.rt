@@ -3,8 +3,8 @@ use record::record_at;
 ghost use mathlib.Core.Path.{_≡_};
 ghost use Prim.Native.Nat.{_<_};
 ghost use lib.ListN.{getD};
-ghost use Rattle.records.specs.Records.{plainRecord, longRecord, Whole, from};
-ghost use Rattle.records.specs.Roots.{rootOf, rootAt};
+ghost use Rattle.term_words.specs.Records.{plainRecord, longRecord, Whole, from};
+ghost use Rattle.term_words.specs.Roots.{rootOf, rootAt};
 
 // The root of a term: its word, how many parts follow, the word of its exception (0 where it has none), the place behind it.
 pub struct Root {

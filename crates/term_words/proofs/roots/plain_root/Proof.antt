@@ -1,8 +1,8 @@
 -- `roots::plain_root` meets its contract: each return is the case that the tests before it pick.
 use borrow.Author.Tests.{eq-eqb, ne-eqb}
 use borrow.Author.Needs.{needs}
-use Rattle.records.proofs.roots.plain_root.Statement.{statement}
-use Rattle.records.proofs.roots.plain_root.Tie as tie
+use Rattle.term_words.proofs.roots.plain_root.Statement.{statement}
+use Rattle.term_words.proofs.roots.plain_root.Tie as tie
 
 rooted-requires : tie.Need-rooted-requires
 rooted-requires c κs = search needs

@@ -7,8 +7,8 @@ use Rattle.theory.specs.Words.{words}
 use Rattle.theory.specs.Translation.{aux, tree}
 use Rattle.theory.specs.Bytes.{TermRecord, constantRecord, succRecord, ifRecord, variableRecord, raiseRecord, handleRecord, callRecord, recordParts, nthTerm}
 use Rattle.record.specs.Record.{recordAt}
-use Rattle.records.specs.declared.roots.Root.{Root}
-use Rattle.records.specs.Records.{termRecordOf, recordBytes}
+use Rattle.term_words.specs.declared.roots.Root.{Root}
+use Rattle.term_words.specs.Records.{termRecordOf, recordBytes}
 
 abbrev pub wordOf : TermRecord → ℕ
 wordOf (constantRecord zeroB) = 1

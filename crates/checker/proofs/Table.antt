@@ -1,19 +1,19 @@
--- The checker's table of arities is that of the program: built-ins first, then the declared functions.
+-- The checker's table of arities is that of the program: built-ins first, then the declared functions. And the openings that are in use.
 use Prim.Native.Nat.{ℕ, zero, suc, _+_, _-_, _≤_, _<_}
 use mathlib.Core.Path.{_≡_, refl, sym, ap, _∙_, subst}
 use mathlib.Core.Bool.{Bool, true, false}
 use mathlib.Core.List.{List, [], _∷_, _++_}
 use native.Mathlib.Omega.{arith}
 use lib.Dec.{ltb}
-use lib.ListN.{length, getD, replicate, List·getD-append}
+use lib.ListN.{length, getD, take, replicate, List·getD-append}
 use lib.Seq.{getD-append-add}
 use borrow.Author.Tests.{ltb-true, ltb-false}
 use Rattle.theory.specs.Syntax.{Fun, pick}
 use Rattle.theory.specs.Builtins.{builtinFuns, nthFun}
-use Rattle.theory.specs.Bytes.{good, Book, RuleAt, funsOf, programOf, readProgram}
+use Rattle.theory.specs.Bytes.{good, Book, RuleAt, ruleCount, openedAt, funsOf, nthArity, Agrees, programOf, readProgram}
 use Rattle.theory.proofs.Accepted.{program-on-bytes}
 use Rattle.checker.specs.Answer.{padded, builtins, table}
 use Rattle.checker.proofs.Callers.{functions-most}
 
 zeros-end : (n k : ℕ) → _≡_ {A = ℕ} (getD (replicate n 0) k 0) 0
 zeros-end zero k = refl
@@ -54,13 +54,25 @@ declared-arity f [] rs k = refl
 declared-arity f (a ∷ ns) rs zero = refl
 declared-arity f (a ∷ ns) rs (suc k) = declared-arity (suc f) ns rs k
 
-pub table-builtin : (ns : List ℕ) (k : ℕ) → k < 16 → getD (table ns) k 0 ≡ nthFun builtinFuns k .arity
+table-builtin : (ns : List ℕ) (k : ℕ) → k < 16 → getD (table ns) k 0 ≡ nthFun builtinFuns k .arity
 unfolding table
 table-builtin ns k h = List·getD-append builtins (padded 32 ns) 0 k h ∙ zeros-behind (aritiesIn builtinFuns) 10 k ∙ arity-at builtinFuns k
 
-pub table-declared : (ns : List ℕ) → length ns ≤ 32 → (k : ℕ) → getD (table ns) (16 + k) 0 ≡ getD ns k 0
+table-declared : (ns : List ℕ) → length ns ≤ 32 → (k : ℕ) → getD (table ns) (16 + k) 0 ≡ getD ns k 0
 unfolding table
 table-declared ns h k = getD-append-add builtins (padded 32 ns) k 0 ∙ padded-at 32 ns h k
+
+nth-same : (ns : List ℕ) (i : ℕ) → getD ns i 0 ≡ nthArity ns i
+nth-same [] i = refl
+nth-same (a ∷ ns) zero = refl
+nth-same (a ∷ ns) (suc i) = nth-same ns i
+
+-- the openings that are in use
+pub openings-used : (k : ℕ) (rs : List RuleAt) → ruleCount rs ≤ k → take (ruleCount rs) (padded k (openedAt rs)) ≡ openedAt rs
+unfolding padded
+openings-used k [] h = refl
+openings-used zero (r ∷ rs) h = absurd (omega arith)
+openings-used (suc k) (r ∷ rs) h = ap (r .opened ∷_) (openings-used k rs (omega arith))
 
 module _ (p : List ℕ) (s : Book) (read : readProgram p ≡ good s) where
   pub table-is : (k : ℕ) → getD (table (s .decls .arities)) k 0 ≡ programOf s .fun k .arity
@@ -81,3 +93,10 @@ module _ (p : List ℕ) (s : Book) (read : readProgram p ≡ good s) where
 
   pub table-small : (k : ℕ) → getD (table (s .decls .arities)) k 0 ≤ 4
   table-small k = subst (λ (a : ℕ). a ≤ 4) (sym (table-is k)) (program-on-bytes p s read .1 .small k)
+
+  pub table-agrees : Agrees (s .decls) (table (s .decls .arities))
+  table-agrees =
+      record {
+        builtin = λ b h. table-builtin (s .decls .arities) b (omega arith);
+        declared = λ f h. table-declared (s .decls .arities) (functions-most p s read) f ∙ nth-same (s .decls .arities) f;
+      }

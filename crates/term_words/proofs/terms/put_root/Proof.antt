@@ -6,10 +6,10 @@ use Prim.Native.Nat.{ℕ}
 use borrow.Author.Tests.{eq-eqb, ne-eqb}
 use Rattle.theory.specs.Syntax.{pick}
 use Rattle.generated.proofs.Writes.{room-as, wrote-as}
-use Rattle.records.specs.Roots.{rootWords}
+use Rattle.term_words.specs.Roots.{rootWords}
 use borrow.Author.Needs.{needs}
-use Rattle.records.proofs.terms.put_root.Statement.{statement}
-use Rattle.records.proofs.terms.put_root.Tie as tie
+use Rattle.term_words.proofs.terms.put_root.Statement.{statement}
+use Rattle.term_words.proofs.terms.put_root.Tie as tie
 
 two : (w x : ℕ) → w ≡ 11 → rootWords w x ≡ w ∷ x ∷ []
 two w x e = ap (λ (b : Bool). pick b (w ∷ x ∷ []) (w ∷ [])) (eq-eqb w 11 e)
