@@ -178,6 +178,39 @@ module _ (ks : List ℕ) (find : List ℕ → Fitting) where
   pub site-inside : (ws : List ℕ) (p : ℕ) (f : Fitting) → siteAt ks find ws 0 ≡ At p f → p < length ws
   site-inside ws p f e = subst (Inside (length ws)) e (path-inside (length ws) ws 0 0 (omega arith))
 
+-- the rule is the one that the search finds for the words from the place on
+module _ (ks : List ℕ) (find : List ℕ → Fitting) (ws : List ℕ) where
+  abbrev FoundAt : Site → Type 0
+  FoundAt (At p f) = (find (drop p ws) ≡ f) × (isFound f ≡ true)
+  FoundAt Nothing = Unit {0}
+
+  here-found : (ss : List ℕ) (at : ℕ) → drop at ws ≡ ss → FoundAt (hereAt find ss at)
+  unfolding hereAt
+  here-found ss at e = go (isFound (find ss)) refl
+    where
+      go : (b : Bool) → isFound (find ss) ≡ b → FoundAt (pick b (At at (find ss)) Nothing)
+      go true q = (ap find e, q)
+      go false q = tt
+
+  or-found : (a b : Site) → FoundAt a → FoundAt b → FoundAt (orHere a b)
+  or-found (At p f) b h k = h
+  or-found Nothing b h k = k
+
+  path-found : (ss : List ℕ) (gap at : ℕ) → drop at ws ≡ ss → FoundAt (path ks find ss gap at)
+  unfolding path
+  path-found [] gap at e = tt
+  path-found (w ∷ ss) (suc gap) at e = path-found ss gap (at + 1) (sym (drop-drop 1 at ws) ∙ ap (drop 1) e)
+  path-found (w ∷ ss) zero at e =
+      or-found (reached (below ks w ss (at + 1)) (λ p. path ks find ss (p - (at + 1)) (at + 1)) Nothing) (hereAt find (w ∷ ss) at)
+      (deeper (below ks w ss (at + 1)) (λ g. path-found ss g (at + 1) (sym (drop-drop 1 at ws) ∙ ap (drop 1) e))) (here-found (w ∷ ss) at e)
+    where
+      deeper : (r : Reach) → ((g : ℕ) → FoundAt (path ks find ss g (at + 1))) → FoundAt (reached r (λ p. path ks find ss (p - (at + 1)) (at + 1)) Nothing)
+      deeper (End p) k = k (p - (at + 1))
+      deeper Short k = tt
+
+  pub site-found : (at p : ℕ) (f : Fitting) → siteAt ks find ws at ≡ At p f → (find (drop p ws) ≡ f) × (isFound f ≡ true)
+  site-found at p f e = subst FoundAt e (path-found (drop at ws) 0 at refl)
+
 -- the rule lies within the list that holds it
 fitting-within : (ks st own si oi ss : List ℕ) → RuleWithin (fittingOf ks st own si oi ss) (length st) (length own)
 fitting-within ks st own si oi ss = go (fittingOf ks st own si oi ss) refl

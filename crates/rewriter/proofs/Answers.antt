@@ -21,7 +21,7 @@ use Rattle.theory.proofs.Exceptions.{Fires, FiresO, fires-part, no-variable-fir
 use Rattle.theory.proofs.Readability.{length-words}
 use Rattle.theory.proofs.Shape.{ShapedRules, ShapedO}
 use Rattle.words.specs.Terms.{arityOf}
-use Rattle.turns.specs.Next.{nextW}
+use Rattle.step.specs.Next.{nextW}
 use Rattle.turns.specs.Run.{Last, run, runFrom}
 use Rattle.turns.specs.declared.run.Ending.the-variants.{Big as big-ending}
 use Rattle.rewriter.specs.Read.{exnW, firedW, rootW, readW, saidW, answerW}

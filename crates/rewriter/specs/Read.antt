@@ -4,7 +4,7 @@ use mathlib.Core.List.{List, [], _∷_}
 use lib.Dec.{eqb}
 use lib.ListN.{getD}
 use Rattle.theory.specs.Syntax.{pick}
-use Rattle.turns.specs.Next.{nextW}
+use Rattle.step.specs.Next.{nextW}
 use Rattle.turns.specs.Run.{Last, runFrom}
 use Rattle.turns.specs.declared.run.Ending.{Ending}
 use Rattle.turns.specs.declared.run.Ending.the-variants.{Done}

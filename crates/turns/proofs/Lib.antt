@@ -1,6 +1,3 @@
--- Laws of one step and of runs on words: Ruled, Runs. The same on the words of trees: Ends, TreeStep, TreeRun.
-pub mod Ruled
+-- The laws of runs on words: Runs. The same on the words of trees: TreeRun.
 pub mod Runs
-pub mod Ends
-pub mod TreeStep
 pub mod TreeRun

@@ -1,5 +1,5 @@
 -- The laws of runs and of turns.
-use mathlib.Core.Path.{_≡_, refl, sym, ap, subst, subst₂, _∙_}
+use mathlib.Core.Path.{_≡_, refl, sym, ap, ap₂, subst, subst₂, _∙_}
 use mathlib.Core.Bool.{Bool, true, false, not}
 use mathlib.Core.Option.{Option, none, some}
 use mathlib.Core.List.{List, []}
@@ -8,23 +8,26 @@ use native.Mathlib.Nat.{zero-add, add-zero, suc-add, sub-zero}
 use native.Mathlib.Omega.{arith}
 use lib.Dec.{leb}
 use lib.ListN.{length, take, drop, replicate, length-append, length-replicate}
-use lib.Seq.{length-take-le}
+use lib.Seq.{length-take-le, drop-drop}
 use borrow.Author.Tests.{le-leb, lt-leb, leb-true, leb-false}
 use Rattle.theory.specs.Buffers.{over, put, padded}
 use Rattle.words.proofs.Writes.{drop-over, take-over, over-self, over-append, over-over, over-same}
 use Rattle.theory.specs.Syntax.{pick}
 use Rattle.splice.specs.Right.{placed}
 use Rattle.splice.specs.declared.Written.the-variants.{Count, TooBig}
-use Rattle.turns.specs.declared.step.Next.{Next}
-use Rattle.turns.specs.declared.step.Next.the-variants.{Made, Over, Nothing}
+use Rattle.step.specs.declared.Next.{Next}
+use Rattle.step.specs.declared.Next.the-variants.{Made, Over, Nothing}
 use Rattle.turns.specs.declared.run.Ending.{Ending}
 use Rattle.turns.specs.declared.run.Ending.the-variants.{Done, Out, Big}
 use Rattle.turns.specs.declared.run.Driven.{Driven}
 use Rattle.turns.specs.declared.run.Ran.{Ran}
 use Rattle.turns.specs.declared.run.Move.{Move}
 use Rattle.turns.specs.declared.run.Move.the-variants.{Stop, Go}
+use Rattle.rules.specs.declared.finding.Fitting.{Fitting}
 use Rattle.place.specs.Noted.{OnPath}
-use Rattle.turns.specs.Next.{nextIn, made, placedNext, OnNext}
+use Rattle.in_place.specs.InPlace.{Leads, Passing}
+use Rattle.in_place.specs.declared.Passed.{Passed}
+use Rattle.step.specs.Next.{nextIn, made, placedNext, OnNext}
 use Rattle.turns.specs.Run.{source, Turned, Drove, isNothing, decided, Last, stop, go, run, runFrom, ranOf}
 
 -- ---- a run's first turn
@@ -41,6 +44,17 @@ module _ (next : List ℕ → Option (List ℕ)) (room n : ℕ) (t : List ℕ) w
 
   pub run-on : (left : ℕ) (u : List ℕ) → next t ≡ some u → length u ≤ room → run next room (suc left) n t ≡ run next room left (n + 1) u
   run-on left u e h = ap (go room n t (run next room left (n + 1))) e ∙ simp (le-leb (length u) room h)
+
+-- steps that lead from a term to another are steps of the run
+pub run-leads : (next : List ℕ → Option (List ℕ)) (room m left n : ℕ) (t u : List ℕ) → Leads next room m t u → m ≤ left → run next room left n t ≡ run next room (left - m) (n + m) u
+run-leads next room zero left n t u h k =
+    ap (λ (x : List ℕ). run next room left n x) h ∙ ap₂ (λ (i j : ℕ). run next room i j u) (sym (sub-zero left)) (sym (add-zero n))
+run-leads next room (suc m) left n t u h k =
+    let i : left ≡ suc (left - 1) = omega arith in
+    let a : left - 1 - m ≡ left - suc m = omega arith in
+    let b : n + 1 + m ≡ n + suc m = omega arith in
+    ap (λ (l : ℕ). run next room l n t) i ∙ run-on next room n t (left - 1) (h .0) (h .1 .0) (h .1 .1 .0)
+    ∙ run-leads next room m (left - 1) (n + 1) (h .0) u (h .1 .1 .1) (omega arith) ∙ ap₂ (λ (i j : ℕ). run next room i j u) a b
 
 -- ---- what a step's answer says of the next term
 never : {A : Type 0} → _≡_ {A = ℕ} 0 1 → A
@@ -160,6 +174,55 @@ pub record Going (next : List ℕ → Option (List ℕ)) (room allowance : ℕ) 
   pub second-rest : drop room s ≡ drop room s₀
   pub first-length : length f ≡ length f₀
   pub second-length : length s ≡ length s₀
+
+-- steps that are made in place, in the buffer that holds the term
+module _ (ks : List ℕ) (find : List ℕ → Fitting) (next : List ℕ → Option (List ℕ)) (flip : Bool) (room left size : ℕ) (f s path : List ℕ) (r : Passed) where
+  abbrev Settled : List ℕ → List ℕ → Type 0
+  Settled f′ s′ = Passing ks find next room left size (source flip f s) (source flip f′ s′) path r × (source flip s′ f′ ≡ source flip s f)
+
+  pub settled-back : (s′ : List ℕ) → flip ≡ true → Passing ks find next room left size s s′ path r → Settled f s′
+  settled-back s′ e h = go flip e
+    where
+      go : (b : Bool) → b ≡ true → Passing ks find next room left size (source b f s) (source b f s′) path r × (source b s′ f ≡ source b s f)
+      go true e = (h, refl)
+      go false e = never (cc)
+
+  pub settled-on : (f′ : List ℕ) → flip ≡ false → Passing ks find next room left size f f′ path r → Settled f′ s
+  settled-on f′ e h = go flip e
+    where
+      go : (b : Bool) → b ≡ false → Passing ks find next room left size (source b f s) (source b f′ s) path r × (source b s f′ ≡ source b s f)
+      go false e = (h, refl)
+      go true e = never (cc)
+
+two-rests : (flip : Bool) (room size : ℕ) (f s f′ s′ : List ℕ) → size ≤ room → drop size (source flip f′ s′) ≡ drop size (source flip f s) → source flip s′ f′ ≡ source flip s f
+    → (drop room f′ ≡ drop room f) × (drop room s′ ≡ drop room s)
+two-rests flip room size f s f′ s′ h e q = go flip e q
+  where
+    further : (x y : List ℕ) → drop size x ≡ drop size y → drop room x ≡ drop room y
+    further x y e =
+        let z : size + (room - size) ≡ room = omega arith in
+        ap (λ (k : ℕ). drop k x) (sym z) ∙ sym (drop-drop (room - size) size x) ∙ ap (drop (room - size)) e ∙ drop-drop (room - size) size y ∙ ap (λ (k : ℕ). drop k y) z
+
+    go : (b : Bool) → drop size (source b f′ s′) ≡ drop size (source b f s) → source b s′ f′ ≡ source b s f → (drop room f′ ≡ drop room f) × (drop room s′ ≡ drop room s)
+    go false e q = (further f′ f e, ap (drop room) q)
+    go true e q = (ap (drop room) q, further s′ s e)
+
+pub settles : (ks : List ℕ) (find : List ℕ → Fitting) (next : List ℕ → Option (List ℕ)) (room allowance : ℕ) (t₀ f₀ s₀ f s f′ s′ path : List ℕ) (flip : Bool) (size steps : ℕ) (r : Passed)
+    → Going next room allowance t₀ f₀ s₀ f s flip size steps → Passing ks find next room (allowance - steps) size (source flip f s) (source flip f′ s′) path r → source flip s′ f′ ≡ source flip s f
+    → length f′ ≡ length f → length s′ ≡ length s → Going next room allowance t₀ f₀ s₀ f′ s′ flip size (steps + r .steps)
+settles ks find next room allowance t₀ f₀ s₀ f s f′ s′ path flip size steps r g h e lf ls =
+    let rests = two-rests flip room size f s f′ s′ (g .fits) (h .rest) e in
+    let z : allowance - steps - r .steps ≡ allowance - (steps + r .steps) = omega arith in
+    record {
+      within = omega (arith, g .within, h .within);
+      fits = g .fits;
+      rest = g .rest ∙ run-leads next room (r .steps) (allowance - steps) steps (take size (source flip f s)) (take size (source flip f′ s′)) (h .leads) (h .within)
+          ∙ ap (λ (k : ℕ). run next room k (steps + r .steps) (take size (source flip f′ s′))) z;
+      first-rest = rests .0 ∙ g .first-rest;
+      second-rest = rests .1 ∙ g .second-rest;
+      first-length = lf ∙ g .first-length;
+      second-length = ls ∙ g .second-length;
+    }
 
 -- a turn that ends the run, and one after which it goes on
 module _ (next : List ℕ → Option (List ℕ)) (room allowance : ℕ) (t₀ f₀ s₀ f s f′ s′ : List ℕ) (flip : Bool) (size steps : ℕ) (g : Going next room allowance t₀ f₀ s₀ f s flip size steps)

@@ -16,13 +16,13 @@ use Rattle.theory.specs.Proper.{ProperRules}
 use Rattle.theory.proofs.Readability.{length-words}
 use Rattle.theory.proofs.Shape.{ShapedRules, ShapedO, step-shaped, fit-shaped}
 use Rattle.words.specs.Terms.{arityOf}
-use Rattle.turns.specs.Next.{nextW}
+use Rattle.step.specs.Next.{nextW}
 use Rattle.turns.specs.Run.{Last, stop, go, run}
 use Rattle.turns.specs.declared.run.Ending.{Ending}
 use Rattle.turns.specs.declared.run.Ending.the-variants.{Done, Out, Big}
 use Rattle.rules.specs.Finding.{fittingOf, isFound, ruleOf}
 use Rattle.rules.proofs.Found.{Picked}
-use Rattle.turns.proofs.TreeStep.{next-is}
+use Rattle.step.proofs.TreeStep.{next-is}
 
 -- how a run of the code says an answer of the theory
 abbrev pub endingOf : Said → Ending

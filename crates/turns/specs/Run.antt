@@ -8,15 +8,15 @@ use mathlib.Core.List.{List, []}
 use lib.ListN.{length, take, drop}
 use lib.Dec.{leb}
 use Rattle.theory.specs.Syntax.{pick}
-use Rattle.turns.specs.declared.step.Next.{Next}
-use Rattle.turns.specs.declared.step.Next.the-variants.{Made, Over, Nothing}
+use Rattle.step.specs.declared.Next.{Next}
+use Rattle.step.specs.declared.Next.the-variants.{Made, Over, Nothing}
 use Rattle.turns.specs.declared.run.Ending.{Ending}
 use Rattle.turns.specs.declared.run.Ending.the-variants.{Done, Out, Big}
 use Rattle.turns.specs.declared.run.Move.{Move}
 use Rattle.turns.specs.declared.run.Move.the-variants.{Stop, Go}
 use Rattle.turns.specs.declared.run.Ran.{Ran}
 use Rattle.turns.specs.declared.run.Driven.{Driven}
-use Rattle.turns.specs.Next.{placedNext}
+use Rattle.step.specs.Next.{placedNext}
 
 -- the buffer that holds the term: the first, or the second where they have changed over
 abbrev pub source : Bool → List ℕ → List ℕ → List ℕ

@@ -1,3 +1,2 @@
-// The rewriter's turns: one step, and the run of steps in two lent buffers.
+// The rewriter's turns: the run of steps in two lent buffers.
 pub mod run;
-pub mod step;

@@ -1,17 +1,24 @@
 // The run: two lent buffers take turns, the term lives in one and the next one is made in the other. A flag says which of the two
 // holds the term.
-use crate::step::Next;
-use crate::step::Step;
-use crate::step::next_into;
+use in_place::Passed;
+use in_place::pass;
+use in_place::usual::is_usual;
+use place::Site;
+use step::Next;
+use step::next_into;
 use words::slices::copy_into;
 use words::slices::zero_from;
 ghost use mathlib.Core.Path.{_≡_};
+ghost use mathlib.Core.Bool.{true};
 ghost use Prim.Native.Nat.{_≤_, _<_};
 ghost use lib.Dec.{leb};
 ghost use lib.ListN.{length, getD, take, replicate};
 ghost use Rattle.theory.specs.Buffers.{over, padded};
+ghost use Rattle.rules.specs.Finding.{fittingOf};
+ghost use Rattle.place.specs.Path.{siteAt};
 ghost use Rattle.place.specs.Noted.{OnPath};
-ghost use Rattle.turns.specs.Next.{nextW, nextIn, OnNext};
+ghost use Rattle.step.specs.Next.{nextW, nextIn};
+ghost use Rattle.in_place.specs.InPlace.{Usual, Passing};
 ghost use Rattle.turns.specs.Run.{Turned, Drove, isNothing, decided, source, ranOf, run, runFrom};
 
 // How a run ends.
@@ -45,8 +52,8 @@ pub enum Move {
     Go(usize),
 }
 
-// A turn: from the buffer that holds the term to the other.
-fn turn<'a>(
+// Makes steps in place in the buffer that holds the term, as long as the next ones are of that kind and no more than `left`.
+fn settle<'a>(
     arities: &[u8],
     standing: &'a [u16],
     own: &'a [u16],
@@ -57,14 +64,69 @@ fn turn<'a>(
     flip: bool,
     size: usize,
     room: usize,
+    left: usize,
+    usual: bool,
     path: &mut [usize],
     last: usize,
-) -> Step
+) -> Passed
     requires { ⌜ (size ≤ room) × ((room ≤ length (now first)) × ((room ≤ length (now second)) × ((room ≤ 65536) × (room < length (now path))))) ⌝ }
     requires { ⌜ OnPath (now arities) (take size (source flip (now first) (now second))) (now path) last ⌝ }
-    ensures { λ r. ⌜ r .next ≡ nextIn room ((nextW (now (arities .entry)) (now (standing .entry)) (now (own .entry)) (now («standing_index» .entry)) (now («own_index» .entry))) (take size (source flip (now (first .entry)) (now (second .entry))))) ⌝ }
+    requires { ⌜ (usual ≡ true → Usual (now standing) (now «standing_index») (now «own_index»)) ⌝ }
+    requires { ⌜ left ≤ 1000000 ⌝ }
+    ensures { λ r. ⌜ Passing (now (arities .entry)) (fittingOf (now (arities .entry)) (now (standing .entry)) (now (own .entry)) (now («standing_index» .entry)) (now («own_index» .entry))) (nextW (now (arities .entry)) (now (standing .entry)) (now (own .entry)) (now («standing_index» .entry)) (now («own_index» .entry))) room left size (source flip (now (first .entry)) (now (second .entry))) (source flip (now (first .exit)) (now (second .exit))) (now (path .exit)) r ⌝ }
+    ensures { λ _. ⌜ source flip (now (second .exit)) (now (first .exit)) ≡ source flip (now (second .entry)) (now (first .entry)) ⌝ }
+{
+    if flip {
+        pass(
+            arities,
+            standing,
+            own,
+            standing_index,
+            own_index,
+            second,
+            size,
+            room,
+            left,
+            usual,
+            path,
+            last,
+        )
+    } else {
+        pass(
+            arities,
+            standing,
+            own,
+            standing_index,
+            own_index,
+            first,
+            size,
+            room,
+            left,
+            usual,
+            path,
+            last,
+        )
+    }
+}
+
+// A turn: from the buffer that holds the term to the other.
+fn turn<'a>(
+    arities: &[u8],
+    standing: &'a [u16],
+    own: &'a [u16],
+    standing_index: &[usize],
+    own_index: &[usize],
+    site: Site,
+    first: &mut [u16],
+    second: &mut [u16],
+    flip: bool,
+    size: usize,
+    room: usize,
+) -> Next
+    requires { ⌜ (size ≤ room) × ((room ≤ length (now first)) × ((room ≤ length (now second)) × (room ≤ 65536))) ⌝ }
+    requires { ⌜ site ≡ siteAt (now arities) (fittingOf (now arities) (now standing) (now own) (now «standing_index») (now «own_index»)) (take size (source flip (now first) (now second))) 0 ⌝ }
+    ensures { λ r. ⌜ r ≡ nextIn room (nextW (now (arities .entry)) (now (standing .entry)) (now (own .entry)) (now («standing_index» .entry)) (now («own_index» .entry)) (take size (source flip (now (first .entry)) (now (second .entry))))) ⌝ }
     ensures { λ _. ⌜ Turned (nextW (now (arities .entry)) (now (standing .entry)) (now (own .entry)) (now («standing_index» .entry)) (now («own_index» .entry))) flip room size (now (first .entry)) (now (second .entry)) (now (first .exit)) (now (second .exit)) ⌝ }
-    ensures { λ r. ⌜ OnNext (now (arities .entry)) (nextW (now (arities .entry)) (now (standing .entry)) (now (own .entry)) (now («standing_index» .entry)) (now («own_index» .entry)) (take size (source flip (now (first .entry)) (now (second .entry))))) (now (path .exit)) (r .last) ⌝ }
 {
     if flip {
         next_into(
@@ -73,11 +135,10 @@ fn turn<'a>(
             own,
             standing_index,
             own_index,
+            site,
             &second[..size],
             first,
             room,
-            path,
-            last,
         )
     } else {
         next_into(
@@ -86,11 +147,10 @@ fn turn<'a>(
             own,
             standing_index,
             own_index,
+            site,
             &first[..size],
             second,
             room,
-            path,
-            last,
         )
     }
 }
@@ -149,12 +209,13 @@ fn drive<'a>(
     requires { ⌜ allowance ≤ 1000000 ⌝ }
     ensures { λ r. ⌜ Drove room (run (nextW (now (arities .entry)) (now (standing .entry)) (now (own .entry)) (now («standing_index» .entry)) (now («own_index» .entry))) room allowance 0 (take len (now (first .entry)))) r (now (first .entry)) (now (second .entry)) (now (first .exit)) (now (second .exit)) ⌝ }
 {
+    let usual = is_usual(standing, standing_index, own_index);
     let mut flip = false;
     let mut size = len;
     let mut steps = 0;
     let mut last = 0;
     loop {
-        let step = turn(
+        let passed = settle(
             arities,
             standing,
             own,
@@ -165,10 +226,27 @@ fn drive<'a>(
             flip,
             size,
             room,
+            allowance - steps,
+            usual,
             path,
             last,
         );
-        let next = step.next;
+        steps += passed.steps;
+        last = passed.number;
+        let site = passed.site;
+        let next = turn(
+            arities,
+            standing,
+            own,
+            standing_index,
+            own_index,
+            site,
+            first,
+            second,
+            flip,
+            size,
+            room,
+        );
         match decide(next, steps, allowance) {
             Move::Stop(ending, count) => {
                 return Driven {
@@ -182,7 +260,6 @@ fn drive<'a>(
                 flip = !flip;
                 size = n;
                 steps += 1;
-                last = step.last;
             }
         }
     }

@@ -1,17 +1,18 @@
 -- The laws of `past`, `skipAt` and `partAt` over any words: what the proofs of skip and of its callers cite.
-use mathlib.Core.Path.{_≡_, refl, sym, ap, subst, _∙_}
+use mathlib.Core.Path.{_≡_, refl, sym, ap, ap₂, subst, _∙_}
 use mathlib.Core.Bool.{Bool, true, false}
-use mathlib.Core.Logic.{_≢_}
-use mathlib.Core.List.{List, [], _∷_}
+use mathlib.Core.Logic.{_≢_, _⊎_, ⊎-elim}
+use mathlib.Core.List.{List, [], _∷_, _++_}
 use Prim.Native.Nat.{ℕ, zero, suc, _+_, _-_, _≤_, _<_}
 use native.Mathlib.Nat.{add-assoc, suc-add, zero-add, add-zero}
 use native.Mathlib.Omega.{arith}
 use lib.Dec.{eqb}
-use lib.ListN.{length, getD, take, drop, length-drop, drop-of-length-le}
-use lib.Seq.{drop-drop}
+use lib.ListN.{length, getD, take, drop, replicate, length-drop, drop-of-length-le}
+use lib.Seq.{take-suc, getD-drop, drop-drop}
 use borrow.Author.Tests.{lt-ltb, le-ltb}
 use Rattle.theory.proofs.Lists.{drop-next}
 use Rattle.theory.specs.Syntax.{pick}
+use Rattle.theory.specs.Buffers.{part}
 use Rattle.theory.proofs.Tests.{eqb-true, eqb-false, ne-of-eqb, eq-of-eqb}
 use Rattle.words.specs.declared.terms.Reach.{Reach}
 use Rattle.words.specs.declared.terms.Reach.the-variants.{End, Short}
@@ -55,6 +56,16 @@ past-front ar (w ∷ l) m (suc n) p q e h =
         let rest : take (q - (p + 1)) m ≡ take (q - (p + 1)) l = cc in
         ap (λ (v : ℕ). past ar m (ar v + n) (p + 1)) same ∙ on m rest
 
+-- the same terms, d words later
+pub past-later : (ar : ℕ → ℕ) (l : List ℕ) (n p d q : ℕ) → past ar l n p ≡ End q → past ar l n (d + p) ≡ End (d + q)
+unfolding past
+past-later ar [] zero p d q e = let h : p ≡ q = cc in ap (λ (i : ℕ). End (d + i)) h
+past-later ar [] (suc n) p d q e = never q e
+past-later ar (w ∷ l) zero p d q e = let h : p ≡ q = cc in ap (λ (i : ℕ). End (d + i)) h
+past-later ar (w ∷ l) (suc n) p d q e =
+    let z : d + p + 1 ≡ d + (p + 1) = omega arith in
+    ap (past ar l (ar w + n)) z ∙ past-later ar l (ar w + n) (p + 1) d q e
+
 -- fewer words than terms
 pub past-few : (ar : ℕ → ℕ) (l : List ℕ) (n p : ℕ) → length l < n → past ar l n p ≡ Short
 unfolding past
@@ -96,6 +107,21 @@ succs-reach (w ∷ l) p = go (eqb w 2) (succs-reach l (p + 1))
     go true h = omega arith
     go false h = omega arith
 
+-- a run of succs holds nothing else
+succs-all : (l : List ℕ) (p : ℕ) → take (succsEnd l p - p) l ≡ replicate (succsEnd l p - p) 2
+unfolding succsEnd
+succs-all [] p = let z : p - p ≡ 0 = omega arith in rw z
+succs-all (w ∷ l) p = go (eqb w 2) refl (succs-all l (p + 1))
+  where
+    run : ℕ → Type 0
+    run q = take (q - p) (w ∷ l) ≡ replicate (q - p) 2
+
+    go : (b : Bool) → eqb w 2 ≡ b → take (succsEnd l (p + 1) - (p + 1)) l ≡ replicate (succsEnd l (p + 1) - (p + 1)) 2 → run (pick b (succsEnd l (p + 1)) p)
+    go true e h =
+        let z : succsEnd l (p + 1) - p ≡ suc (succsEnd l (p + 1) - (p + 1)) = omega (arith, succs-reach l (p + 1)) in
+        rw z (ap₂ {C = List ℕ} _∷_ (eq-of-eqb w 2 e) h)
+    go false e h = let z : p - p ≡ 0 = omega arith in rw z
+
 -- succ has one part: under a run of succs the next term ends where it ended
 past-succs : (ks l : List ℕ) (p : ℕ) → past (arityOf ks) (drop (succsEnd l p - p) l) 1 (succsEnd l p) ≡ past (arityOf ks) l 1 p
 unfolding past arityOf succsEnd
@@ -115,6 +141,9 @@ past-succs ks (w ∷ l) p = go (eqb w 2) refl (past-succs ks l (p + 1))
 module _ (ws : List ℕ) (p : ℕ) where
   pub succs-from : (q : ℕ) → q ≡ succsEnd (drop p ws) p → p ≤ q
   succs-from q e = subst (λ (n : ℕ). p ≤ n) (sym e) (succs-reach (drop p ws) p)
+
+  pub succs-run : (q : ℕ) → q ≡ succsEnd (drop p ws) p → part p q ws ≡ replicate (q - p) 2
+  succs-run q e = subst (λ (n : ℕ). take (n - p) (drop p ws) ≡ replicate (n - p) 2) (sym e) (succs-all (drop p ws) p)
 
   pub succs-out : length ws ≤ p → succsEnd (drop p ws) p ≡ p
   unfolding succsEnd
@@ -168,6 +197,27 @@ module _ (ks ws : List ℕ) where
       let s : past (arityOf ks) (drop (q - p) (drop p ws)) 1 q ≡ past (arityOf ks) (drop p ws) 1 p =
       subst (λ (n : ℕ). past (arityOf ks) (drop (n - p) (drop p ws)) 1 n ≡ past (arityOf ks) (drop p ws) 1 p) (sym e) (past-succs ks (drop p ws) p) in
       sym (rw (drop-drop, z) at s)
+
+  -- a value is a run of succs and then 0, True or False, which have no parts
+  pub value-skips : (p q c : ℕ) → q ≡ succsEnd (drop p ws) p → q < length ws → getD ws q 0 ≡ c → (c ≡ 1) ⊎ ((c ≡ 3) ⊎ (c ≡ 4))
+      → (skipAt ks ws p ≡ End (q + 1)) × (part p (q + 1) ws ≡ replicate (q - p) 2 ++ (c ∷ []))
+  unfolding arityOf
+  value-skips p q c e h g k = (
+    skip-succs p q e ∙ skip-root q h ∙ ap (λ (n : ℕ). past (arityOf ks) (drop (q + 1) ws) n (q + 1)) (ap (arityOf ks) g ∙ none k) ∙ past-none (arityOf ks) (drop (q + 1) ws) (q + 1),
+    ap (λ (n : ℕ). take n (drop p ws)) m ∙ take-suc (drop p ws) (q - p) 0 inside ∙ ap₂ (λ (l : List ℕ) (x : ℕ). l ++ (x ∷ [])) (succs-run ws p q e) last,
+  )
+    where
+      none : (c ≡ 1) ⊎ ((c ≡ 3) ⊎ (c ≡ 4)) → arityOf ks c ≡ 0
+      none k = ⊎-elim (λ x. ap (arityOf ks) x) (λ k. ⊎-elim (λ x. ap (arityOf ks) x) (λ x. ap (arityOf ks) x) k) k
+
+      m : q + 1 - p ≡ suc (q - p)
+      m = omega (arith, succs-from ws p q e)
+
+      inside : q - p < length (drop p ws)
+      inside = omega (arith, succs-from ws p q e, length-drop p ws)
+
+      last : getD (drop p ws) (q - p) 0 ≡ c
+      last = let z : p + (q - p) ≡ q = omega (arith, succs-from ws p q e) in getD-drop p ws (q - p) 0 ∙ ap (λ (i : ℕ). getD ws i 0) z ∙ g
 
   -- a term has a word at least, and ends within the words
   pub skip-reach : (p q : ℕ) → skipAt ks ws p ≡ End q → (p < q) × (q ≤ length ws)

@@ -74,7 +74,7 @@ fn blocks_end(words: &[u16], at: usize) -> usize
 
 // The place of the first word, from `at` on, that is not succ's. A succ has one part, so a term ends where the one under its succs
 // does; values are such runs.
-fn succs_end(words: &[u16], at: usize) -> usize
+pub fn succs_end(words: &[u16], at: usize) -> usize
     ensures { λ r. ⌜ r ≡ succsEnd (drop at (now (words .entry))) at ⌝ }
 {
     let mut i = blocks_end(words, at);

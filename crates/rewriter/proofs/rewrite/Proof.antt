@@ -3,7 +3,7 @@ use mathlib.Core.Path.{_≡_, ap}
 use Prim.Native.Nat.{_≤_}
 use native.Mathlib.Omega.{arith}
 use lib.ListN.{length}
-use Rattle.turns.specs.Next.{nextW}
+use Rattle.step.specs.Next.{nextW}
 use Rattle.turns.specs.Run.{Last}
 use Rattle.rewriter.specs.Read.{runOn}
 use Rattle.turns.specs.declared.run.Ran.{Ran}

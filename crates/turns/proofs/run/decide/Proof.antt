@@ -5,9 +5,9 @@ use Prim.Native.Nat.{ℕ}
 use native.Mathlib.Omega.{arith}
 use borrow.Author.Tests.{leb-false}
 use denote.Enum.Declared.{tagOf}
-use Rattle.turns.proofs.step.Next.{the-type}
-use Rattle.turns.specs.declared.step.Next.{Next}
-use Rattle.turns.specs.declared.step.Next.the-variants.{Made}
+use Rattle.step.proofs.Next.{the-type}
+use Rattle.step.specs.declared.Next.{Next}
+use Rattle.step.specs.declared.Next.the-variants.{Made}
 use Rattle.turns.proofs.Runs.{decided-done, decided-out, decided-on, decided-big}
 use borrow.Author.Needs.{needs}
 use Rattle.turns.proofs.run.decide.Statement.{statement}

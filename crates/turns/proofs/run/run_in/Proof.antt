@@ -3,7 +3,7 @@ use mathlib.Core.Path.{refl, _∙_}
 use native.Mathlib.Omega.{arith}
 use lib.ListN.{take}
 use Rattle.turns.specs.Run.{run}
-use Rattle.turns.specs.Next.{nextW}
+use Rattle.step.specs.Next.{nextW}
 use Rattle.turns.proofs.Runs.{settled-first, settled-second, settled-answer}
 use borrow.Author.Needs.{needs}
 use Rattle.turns.proofs.run.run_in.Statement.{statement}

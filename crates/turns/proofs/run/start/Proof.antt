@@ -1,5 +1,5 @@
 -- `run::start` meets its contract.
-use Rattle.turns.specs.Next.{nextW}
+use Rattle.step.specs.Next.{nextW}
 use Rattle.turns.proofs.Runs.{started, started-big}
 use borrow.Author.Needs.{needs}
 use Rattle.turns.proofs.run.start.Statement.{statement}

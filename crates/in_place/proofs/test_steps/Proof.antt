@@ -1,0 +1,75 @@
+-- `in_place::test_steps` meets its contract.
+use mathlib.Core.Path.{ap, subst}
+use Prim.Native.Nat.{ℕ, _+_, _-_}
+use native.Mathlib.Omega.{arith}
+use lib.ListN.{getD}
+use borrow.Author.Tests.{not-false}
+use Rattle.words.proofs.Skips.{succs-from}
+use Rattle.in_place.specs.InPlace.{Base, Passes}
+use borrow.Author.Needs.{needs}
+use Rattle.in_place.proofs.test_steps.Statement.{statement}
+use Rattle.in_place.proofs.test_steps.Tie as tie
+
+succs-end-requires : tie.Need-succs-end-requires
+succs-end-requires c κs = search needs
+
+returns : tie.Need-returns
+returns c = (λ h. absurd (omega (arith, h)), omega arith)
+
+mul-is-base : tie.Need-mul-is-base
+mul-is-base c = search needs
+
+shared-slice-read-is-base : tie.Need-shared-slice-read-is-base
+shared-slice-read-is-base c = search needs
+
+is-base-requires : tie.Need-is-base-requires
+is-base-requires c κs = search needs
+
+returns-2 : tie.Need-returns-2
+returns-2 c = (λ h. absurd (omega (arith, h)), omega arith)
+
+sub-steps : tie.Need-sub-steps
+sub-steps c = succs-from _ _ _ (c .before .before .before .before .succs-end .ensures)
+
+add-steps : tie.Need-add-steps
+add-steps c = search needs
+
+sub-if3 : tie.Need-sub-if3
+sub-if3 c = search needs
+
+returns-3 : tie.Need-returns-3
+returns-3 c = (λ h. absurd (omega (arith, h)), omega arith)
+
+returns-4 : tie.Need-returns-4
+returns-4 c =
+    let tested = c .before .before in
+    let first = tested .before .before in
+    let start = first .before .before .before in
+    let a = start .args in
+    let is = first .before .succs-end .ensures in
+    let fits = c .if3 .left in
+    let base = tested .is-base .ensures (not-false _ (c .before .if2 .left)) in
+    let passes : Passes (a .term .now) (a .q) (a .room) _ =
+    record {
+      inside = omega (arith, is, first .if1 .left);
+      base = subst (λ (e : ℕ). Base (getD (a .term .now) e 0)) is base;
+      count = ap (λ (e : ℕ). e - a .q + 3) is;
+      fits = omega (arith, fits, start .pre);
+    } in
+    (λ h. passes, omega (arith, fits, start .pre))
+
+pub test-steps-spec : {M : Type 1} → statement M
+test-steps-spec =
+    tie.close
+    (tie.spec
+    succs-end-requires
+    returns
+    mul-is-base
+    shared-slice-read-is-base
+    is-base-requires
+    returns-2
+    sub-steps
+    add-steps
+    sub-if3
+    returns-3
+    returns-4)

@@ -1,0 +1,2 @@
+-- The definitions that the contracts and the laws cite.
+pub mod InPlace
