@@ -27,7 +27,33 @@ ghost use Rattle.bridge.specs.Report.{reportOf, answerReport};
 ghost use Rattle.bridge.specs.Accepted.{Accepts, Listed, Runs};
 ghost use Rattle.bridge.specs.Calls.{Leaves};
 
+// The evaluator on a question whose program's own list is lent.
+fn evaluate_listed(question: &[u8], checked: Checked, own: &[u16], steps: u32, levels: u32) -> Report
+    requires { ⌜ Listed (now question) checked (now own) ⌝ }
+    requires { ⌜ (steps ≤ 1000000) × (levels ≤ 1000) ⌝ }
+    ensures { λ r. ⌜ ((l : Listed (now (question .entry)) checked (now (own .entry))) → r ≡ answerReport (evaluator (programOf (l .asks .accepts .checks .book)) levels steps (l .asks .accepts .term))) ⌝ }
+{
+    let standing = rules::table::standing_list();
+    let arities = checked.arities;
+    let mut asked = [0u16; 512];
+    let n = question_words(question, checked, &mut asked);
+    run_evaluator(&asked[0..n], &standing[..], own, &arities[..], steps, levels)
+}
+
 // The evaluator on an accepted program and question. No own list is longer than the array for it.
+fn evaluate_long(program: &[u8], question: &[u8], checked: Checked, steps: u32, levels: u32) -> Report
+    requires { ⌜ Accepts (now program) (now question) checked ⌝ }
+    requires { ⌜ (steps ≤ 1000000) × (levels ≤ 1000) ⌝ }
+    ensures { λ r. ⌜ ((a : Accepts (now (program .entry)) (now (question .entry)) checked) → r ≡ answerReport (evaluator (programOf (a .checks .book)) levels steps (a .term))) ⌝ }
+{
+    let mut own = [0u16; 15504];
+    match own_words(program, checked, &mut own) {
+        Written::Count(m) => evaluate_listed(question, checked, &own[0..m], steps, levels),
+        Written::Short => refused(13, 1, 0),
+    }
+}
+
+// The same. The own list of most books fits a small array, which is sooner filled with zeros.
 fn evaluate_accepted(
     program: &[u8],
     question: &[u8],
@@ -39,21 +65,10 @@ fn evaluate_accepted(
     requires { ⌜ (steps ≤ 1000000) × (levels ≤ 1000) ⌝ }
     ensures { λ r. ⌜ ((a : Accepts (now (program .entry)) (now (question .entry)) checked) → r ≡ answerReport (evaluator (programOf (a .checks .book)) levels steps (a .term))) ⌝ }
 {
-    let standing = rules::table::standing_list();
-    let arities = checked.arities;
-    let mut own = [0u16; 15504];
-    let mut asked = [0u16; 512];
-    let n = question_words(question, checked, &mut asked);
+    let mut own = [0u16; 1024];
     match own_words(program, checked, &mut own) {
-        Written::Count(m) => run_evaluator(
-            &asked[0..n],
-            &standing[..],
-            &own[0..m],
-            &arities[..],
-            steps,
-            levels,
-        ),
-        Written::Short => refused(13, 1, 0),
+        Written::Count(m) => evaluate_listed(question, checked, &own[0..m], steps, levels),
+        Written::Short => evaluate_long(program, question, checked, steps, levels),
     }
 }
 

@@ -9,6 +9,7 @@ use Rattle.theory.specs.Translation.{aux}
 use Rattle.rules.specs.Index.{spanOf, partIn}
 use Rattle.evaluator.specs.declared.values.Value.{Value}
 use Rattle.evaluator.specs.declared.fitting.Found.{Found}
+use Rattle.evaluator.specs.declared.fitting.Fitted.{Fitted}
 use Rattle.evaluator.specs.Values.{none, nones}
 
 -- the part of a list that an index gives for the root w
@@ -38,6 +39,24 @@ fitNode k x a b up w =
 unfoldable pub fitOf : List ℕ → ℕ → ℕ → ℕ → List Value → Found
 fitOf rs x zero a b = fitNode 0 x a b misfit (getD rs a 0)
 fitOf rs x (suc k) a b = fitNode (suc k) x a b (fitOf rs x k (a + 1) b) (getD rs a 0)
+
+abbrev pub noFit : Fitted
+noFit = record { ok = false; at = 0; slot = 8; rest = none }
+
+-- the word w, which is no succ, against k times succ over x: a variable's number and what it stands for; a is the place after it
+unfoldable pub fitWord : ℕ → ℕ → ℕ → ℕ → Fitted
+fitWord k x a w =
+    pick (eqb w 0) noFit
+    (pick (ltb w 64) (pick (eqb k 0) (pick (eqb x w) (record { ok = true; at = a; slot = 8; rest = none }) noFit) noFit)
+    (record { ok = true; at = a; slot = w - 64; rest = record { succs = k; base = x } }))
+
+abbrev pub fitInNode : ℕ → ℕ → ℕ → Fitted → ℕ → Fitted
+fitInNode k x a up w = pick (eqb w 2) up (fitWord k x (a + 1) w)
+
+-- the pattern at a against k times succ over x, without the bindings: a pattern binds one variable at most
+unfoldable pub fitIn : List ℕ → ℕ → ℕ → ℕ → Fitted
+fitIn rs x zero a = fitInNode 0 x a noFit (getD rs a 0)
+fitIn rs x (suc k) a = fitInNode (suc k) x a (fitIn rs x k (a + 1)) (getD rs a 0)
 
 abbrev pub fitThen : Found → (ℕ → List Value → Found) → Found
 fitThen f k = pick (f .ok) (k (f .at) (f .b)) misfit

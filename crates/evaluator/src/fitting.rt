@@ -1,19 +1,26 @@
 // The rules of a function, and the first of them whose patterns fit the values of a call.
 use crate::values::Value;
-use crate::values::bound;
-use crate::values::with;
 use rules::index::span_of;
 use rules::index::word_at;
 ghost use mathlib.Core.Path.{_≡_};
-ghost use Prim.Native.Nat.{_+_, _≤_, _<_};
+ghost use Prim.Native.Nat.{_≤_, _<_};
 ghost use lib.ListN.{length};
-ghost use Rattle.evaluator.specs.Fitting.{rulesOf, misfit, fitOf, fitsOf, ruleOf, foundFrom};
+ghost use Rattle.evaluator.specs.Fitting.{rulesOf, misfit, noFit, fitWord, fitIn, fitsOf, ruleOf, foundFrom};
+ghost use Rattle.evaluator.specs.Values.{nones};
 
 // Whether it fits, the place after what was read (of a rule: of its right side), and the bindings.
 pub struct Found {
     pub ok: bool,
     pub at: usize,
     pub b: [Value; 8],
+}
+
+// Whether a pattern fits, the place after it, and the variable that it binds, 8 where it binds none, to what is left of the value.
+pub struct Fitted {
+    pub ok: bool,
+    pub at: usize,
+    pub slot: usize,
+    pub rest: Value,
 }
 
 // The rules of function k, which has n arguments: those in its list whose root is its last auxiliary. There are 48 functions.
@@ -54,64 +61,88 @@ fn misfit_of() -> Found
     }
 }
 
-// The pattern at a place against a value.
-fn fit(rules: &[u16], at: usize, v: Value, b: [Value; 8]) -> Found
-    ensures { λ r. ⌜ r ≡ fitOf (now (rules .entry)) (v .base) (v .succs) at b ⌝ }
+fn no_fit() -> Fitted
+    ensures { λ r. ⌜ r ≡ noFit ⌝ }
 {
-    if rules.len() <= at {
-        return misfit_of();
-    }
-    let w = rules[at];
-    let k = v.succs;
-    if w == 0 {
-        return misfit_of();
-    }
-    if w == 2 {
-        if k == 0 {
-            return misfit_of();
-        }
-        let less = Value {
-            succs: k - 1,
-            base: v.base,
-        };
-        return fit(rules, at + 1, less, b);
-    }
-    if w < 64 {
-        if k == 0 {
-            if v.base == w {
-                return Found {
-                    ok: true,
-                    at: at + 1,
-                    b,
-                };
-            }
-        }
-        return misfit_of();
-    }
-    let c = with(b, (w - 64) as usize, v);
-    Found {
-        ok: true,
-        at: at + 1,
-        b: c,
+    Fitted {
+        ok: false,
+        at: 0,
+        slot: 8,
+        rest: Value { succs: 0, base: 1 },
     }
 }
 
-// The n patterns from at on against the values from number i on.
-fn fit_all(rules: &[u16], at: usize, n: usize, i: usize, vals: [Value; 8], b: [Value; 8]) -> Found
-    requires { ⌜ i + n ≤ 4 ⌝ }
-    ensures { λ r. ⌜ r ≡ fitsOf (now (rules .entry)) n at i vals b ⌝ }
+// The word w of a pattern, which is no succ, against k times succ over base; next is the place after it.
+fn fit_word(w: u16, k: u32, base: u16, next: usize) -> Fitted
+    ensures { λ r. ⌜ r ≡ fitWord k base next w ⌝ }
 {
-    if n == 0 {
-        return Found { ok: true, at, b };
+    if 64 <= w {
+        return Fitted {
+            ok: true,
+            at: next,
+            slot: (w - 64) as usize,
+            rest: Value { succs: k, base },
+        };
     }
-    let f = fit(rules, at, bound(vals, i), b);
-    if f.ok {
-        let next = f.at;
-        let c = f.b;
-        fit_all(rules, next, n - 1, i + 1, vals, c)
-    } else {
-        misfit_of()
+    if w == 0 {
+        return no_fit();
     }
+    if k != 0 {
+        return no_fit();
+    }
+    if base != w {
+        return no_fit();
+    }
+    Fitted {
+        ok: true,
+        at: next,
+        slot: 8,
+        rest: Value { succs: 0, base: 1 },
+    }
+}
+
+// The pattern at a place against a value: a succ of the one takes a succ of the other.
+fn fit(rules: &[u16], at: usize, v: Value) -> Fitted
+    ensures { λ r. ⌜ r ≡ fitIn (now (rules .entry)) (v .base) (v .succs) at ⌝ }
+{
+    let mut a = at;
+    let mut k = v.succs;
+    while a < rules.len() {
+        let w = rules[a];
+        if w != 2 {
+            return fit_word(w, k, v.base, a + 1);
+        }
+        if k == 0 {
+            return no_fit();
+        }
+        k -= 1;
+        a += 1;
+    }
+    no_fit()
+}
+
+// The n patterns from at on against the first n values.
+fn fit_all(rules: &[u16], at: usize, n: usize, vals: [Value; 8]) -> Found
+    requires { ⌜ n ≤ 4 ⌝ }
+    ensures { λ r. ⌜ r ≡ fitsOf (now (rules .entry)) n at 0 vals nones ⌝ }
+{
+    let mut b = [Value { succs: 0, base: 1 }; 8];
+    let mut a = at;
+    let mut i = 0;
+    while i < n {
+        let f = fit(rules, a, vals[i]);
+        if !f.ok {
+            return misfit_of();
+        }
+        let x = f.slot;
+        let rest = f.rest;
+        if x < 8 {
+            b[x] = rest;
+        }
+        a = f.at;
+        i += 1;
+    }
+    Found { ok: true, at: a, b }
 }
 
 // The rule at a place, if its n patterns fit: they stand behind the two counts and the root.
@@ -119,7 +150,7 @@ fn rule_fits(rules: &[u16], at: usize, n: usize, vals: [Value; 8]) -> Found
     requires { ⌜ (at < length (now rules)) × (n ≤ 4) ⌝ }
     ensures { λ r. ⌜ r ≡ ruleOf (now (rules .entry)) n vals at ⌝ }
 {
-    let f = fit_all(rules, at + 3, n, 0, vals, [Value { succs: 0, base: 1 }; 8]);
+    let f = fit_all(rules, at + 3, n, vals);
     if f.ok {
         let c = f.b;
         return Found {

@@ -1,6 +1,6 @@
 // Values, how an evaluation ends, and the eight values that a call's variables stand for.
 ghost use mathlib.Core.Path.{_≡_};
-ghost use lib.ListN.{getD, set};
+ghost use lib.ListN.{getD};
 ghost use Rattle.evaluator.specs.Values.{none};
 
 // succ so many times over the constant whose word is base: 1, 3 or 4.
@@ -39,16 +39,4 @@ pub fn bound(b: [Value; 8], x: usize) -> Value
     } else {
         Value { succs: 0, base: 1 }
     }
-}
-
-// The bindings with x bound to v.
-pub fn with(b: [Value; 8], x: usize, v: Value) -> [Value; 8]
-    ensures { λ r. ⌜ r ≡ set b x v ⌝ }
-{
-    if x < 8 {
-        let mut c = b;
-        c[x] = v;
-        return c;
-    }
-    b
 }

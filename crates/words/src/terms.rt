@@ -87,11 +87,23 @@ pub fn succs_end(words: &[u16], at: usize) -> usize
     i
 }
 
+// The same. Most terms do not begin with a succ: they are told by their first word.
+fn root_of(words: &[u16], at: usize) -> usize
+    ensures { λ r. ⌜ r ≡ succsEnd (drop at (now (words .entry))) at ⌝ }
+{
+    if at < words.len() {
+        if words[at] != 2 {
+            return at;
+        }
+    }
+    succs_end(words, at)
+}
+
 // The place past the term that starts at `at`: under its succs its root is read, and then each of its parts by the same rule.
 pub fn skip(arities: &[u8], words: &[u16], at: usize) -> Reach
     ensures { λ r. ⌜ r ≡ skipAt (now (arities .entry)) (now (words .entry)) at ⌝ }
 {
-    let root = succs_end(words, at);
+    let root = root_of(words, at);
     if words.len() <= root {
         return Reach::Short;
     }

@@ -10,17 +10,17 @@ add-fit-all c = search needs
 fit-all-requires : tie.Need-fit-all-requires
 fit-all-requires c κs = search needs
 
-add-t11 : tie.Need-add-t11
-add-t11 c = search needs
+add-t9 : tie.Need-add-t9
+add-t9 c = search needs
 
 word-at-requires : tie.Need-word-at-requires
 word-at-requires c κs = search needs
 
-cast-t13 : tie.Need-cast-t13
-cast-t13 c = search needs
+cast-t11 : tie.Need-cast-t11
+cast-t11 c = search needs
 
-add-t14 : tie.Need-add-t14
-add-t14 c = search needs
+add-t12 : tie.Need-add-t12
+add-t12 c = search needs
 
 returns : tie.Need-returns
 returns c = rule-fits _ _ _ _ (c .before .before .before .fit-all .ensures) (c .before .before .if1 .taken) (c .word-at .ensures)
@@ -37,10 +37,10 @@ rule-fits-spec =
     (tie.spec
     add-fit-all
     fit-all-requires
-    add-t11
+    add-t9
     word-at-requires
-    cast-t13
-    add-t14
+    cast-t11
+    add-t12
     returns
     misfit-of-requires
     returns-2)

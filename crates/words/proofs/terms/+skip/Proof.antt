@@ -13,7 +13,7 @@ use Rattle.words.proofs.terms.skip.Reads as skip
 use Rattle.words.proofs.terms.skip.Kinds as skip-kinds
 use Rattle.words.proofs.terms.+skip.Lts-skip as skip-lts
 use Rattle.words.proofs.terms.arity.Reads as arity-reads
-use Rattle.words.proofs.terms.succs_end.Reads as succs-end-reads
+use Rattle.words.proofs.terms.succs_end.Reads as root-of-reads
 use Rattle.words.proofs.terms.+skip.{statement}
 use Rattle.words.proofs.terms.+skip.Tie.{close}
 
@@ -33,14 +33,14 @@ abbrev skip-μ-loop : skip-lts.MeasureT-loop
 skip-μ-loop arities words at root left₀ next₀ left next = left
 
 abbrev claims : ℕ → skip-lts.Claims
-claims t = (succs-end-reads.Asked, succs-end-reads.Learnt, arity-reads.Asked, arity-reads.Learnt, skip-below t, skip.Post)
+claims t = (root-of-reads.Asked, root-of-reads.Learnt, arity-reads.Asked, arity-reads.Learnt, skip-below t, skip.Post)
 
 module _ (t : ℕ) where
-  succs-end-requires : skip-lts.Need-succs-end-requires (claims t) (skip-at t) skip.Post skip-Inv-loop skip-μ-loop
-  succs-end-requires c κs = tt
+  root-of-requires : skip-lts.Need-root-of-requires (claims t) (skip-at t) skip.Post skip-Inv-loop skip-μ-loop
+  root-of-requires c κs = tt
 
   returns : skip-lts.Need-returns (claims t) (skip-at t) skip.Post skip-Inv-loop skip-μ-loop
-  returns c = sym (skip-succs _ _ _ _ (c .before .succs-end .ensures) ∙ skip-out _ _ _ (c .if1 .taken))
+  returns c = sym (skip-succs _ _ _ _ (c .before .root-of .ensures) ∙ skip-out _ _ _ (c .if1 .taken))
 
   mul-arity : skip-lts.Need-mul-arity (claims t) (skip-at t) skip.Post skip-Inv-loop skip-μ-loop
   mul-arity c = search needs
@@ -56,7 +56,7 @@ module _ (t : ℕ) where
 
   loop-holds : skip-lts.Need-loop-holds (claims t) (skip-at t) skip.Post skip-Inv-loop skip-μ-loop
   loop-holds c =
-      let e = c .before .before .before .succs-end .ensures in
+      let e = c .before .before .before .root-of .ensures in
       (skip-succs _ _ _ _ e ∙ rw (c .arity .ensures) (skip-root _ _ _ (c .before .before .if1 .left)), (succs-from _ _ _ e, omega arith))
 
   skip-requires : skip-lts.Need-skip-requires (claims t) (skip-at t) skip.Post skip-Inv-loop skip-μ-loop
@@ -93,4 +93,4 @@ module _ (t : ℕ) where
       sym (rw z at (c .before .loop .inv .0) ∙ past-none _ _ _)
 
 pub +skip-spec : {M : Type 1} → statement M
-+skip-spec = close μ-skip λ t. skip-lts.spec (claims t) (skip-at t) skip.Post skip-Inv-loop skip-μ-loop (succs-end-requires t) (returns t) (mul-arity t) (shared-slice-read-arity t) (arity-requires t) (add-next t) (loop-holds t) (skip-requires t) (enum-known-e t) (enum-told t) (returns-2 t) (sub-left t) (loop-less t) (loop-again t) (returns-3 t)
++skip-spec = close μ-skip λ t. skip-lts.spec (claims t) (skip-at t) skip.Post skip-Inv-loop skip-μ-loop (root-of-requires t) (returns t) (mul-arity t) (shared-slice-read-arity t) (arity-requires t) (add-next t) (loop-holds t) (skip-requires t) (enum-known-e t) (enum-told t) (returns-2 t) (sub-left t) (loop-less t) (loop-again t) (returns-3 t)
