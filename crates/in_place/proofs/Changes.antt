@@ -19,6 +19,7 @@ use Rattle.words.proofs.Skips.{never, skip-root, value-skips}
 use Rattle.rules.specs.Matching.{fits}
 use Rattle.rules.specs.Finding.{fittingOf, ruleOf}
 use Rattle.rules.specs.declared.finding.Fitting.{Fitting}
+use Rattle.rules.specs.Usual.{Usual}
 use Rattle.rules.proofs.Fitted.{Fitted, found-fits}
 use Rattle.place.specs.Path.{siteAt}
 use Rattle.place.specs.Noted.{OnPath, Numbered}
@@ -28,7 +29,7 @@ use Rattle.place.proofs.Path.{site-found, site-inside}
 use Rattle.place.proofs.Noted.{path-kept}
 use Rattle.step.specs.Next.{left, right, nextW}
 use Rattle.step.proofs.Ruled.{next-ruled}
-use Rattle.in_place.specs.InPlace.{Leads, Changes, vars, Calls, Renames, Tests, Passes, Usual}
+use Rattle.in_place.specs.InPlace.{Leads, Changes, vars, Calls, Renames, Tests, Passes}
 use Rattle.in_place.specs.declared.Change.{Change}
 use Rattle.in_place.proofs.Variables.{taken, renamed, tested}
 use Rattle.in_place.proofs.Values.{value-passes}

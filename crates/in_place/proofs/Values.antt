@@ -1,6 +1,6 @@
 -- A value is passed: where v is a value, guard(isData(v), y) leads to y, in a step for each succ of v and two more.
 use mathlib.Core.Path.{_≡_, refl, sym, ap, ap₂, subst, _∙_}
-use mathlib.Core.Logic.{_≢_, _⊎_, inl, inr}
+use mathlib.Core.Logic.{_≢_, inl, inr}
 use mathlib.Core.Bool.{true, false}
 use mathlib.Core.Option.{Option, some}
 use mathlib.Core.List.{List, [], _∷_, _++_, append-nil}
@@ -19,11 +19,12 @@ use Rattle.words.proofs.Parts.{tail-part}
 use Rattle.rules.specs.Matching.{takes, reached, fits, binds}
 use Rattle.rules.specs.declared.matching.Bound.{Bound}
 use Rattle.rules.specs.Index.{spanOf}
+use Rattle.rules.specs.Usual.{Base, opening, Usual}
 use Rattle.rules.specs.Finding.{firstFit, moved, firstIn, firstAt, fittingOf, isFound}
 use Rattle.rules.specs.declared.finding.Place.the-variants.{Stored}
 use Rattle.rules.specs.declared.finding.Fitting.{Fitting}
 use Rattle.rules.specs.declared.finding.Fitting.the-variants.{Standing, Nowhere}
-use Rattle.rules.proofs.Takes.{takes-var, takes-same, takes-other, fits-end, fits-next, fits-stop, binds-end, binds-var, binds-plain}
+use Rattle.rules.proofs.Takes.{takes-var, takes-same, fits-end, fits-next, fits-other, binds-end, binds-var, binds-plain}
 use Rattle.rules.proofs.Walk.{at-found, at-next}
 use Rattle.rules.proofs.Placed.{first-none, found-in-standing, found-in-own}
 use Rattle.place.specs.Path.{below, hereAt, orHere, path, siteAt}
@@ -34,14 +35,11 @@ use Rattle.place.specs.declared.Site.{Site}
 use Rattle.place.specs.declared.Site.the-variants.{Nothing, At}
 use Rattle.splice.specs.Right.{new, wordFor}
 use Rattle.step.specs.Next.{pastBy, endBy, ruled, nextW}
-use Rattle.in_place.specs.InPlace.{Leads, opening, Usual}
+use Rattle.in_place.specs.InPlace.{Leads}
 use Rattle.step.proofs.Ruled.{past-plain, ruled-is, next-ruled}
 
 -- ---- where terms end
--- the words of values that are not a succ's: 0, True and False
-abbrev Base : ℕ → Type 0
-Base c = (c ≡ 1) ⊎ ((c ≡ 3) ⊎ (c ≡ 4))
-
+-- 0, True and False are terms alone
 base-alone : (ks : List ℕ) (c : ℕ) → Base c → arityOf ks c ≡ 0
 unfolding arityOf
 base-alone ks c h = elim h [ inl e ↦ ap (arityOf ks) e | inr k ↦ elim k [ inl e ↦ ap (arityOf ks) e | inr e ↦ ap (arityOf ks) e ] ]
@@ -72,11 +70,6 @@ module _ (ks : List ℕ) (a b : ℕ) (va : isVar a ≡ false) (vb : isVar b ≡ 
 
   takes-second : takes ks S b 1 ≡ End 2
   takes-second = takes-same ks S b 1 vb (omega arith) refl
-
-  fits-other : (c : ℕ) (ps : List ℕ) → isVar c ≡ false → c ≢ b → fits ks S (a ∷ c ∷ ps) 0 ≡ false
-  fits-other c ps v n =
-      fits-next ks S (a ∷ c ∷ ps) 0 0 (omega arith) 1 takes-first
-      ∙ fits-stop ks S (a ∷ c ∷ ps) 1 1 (omega arith) (takes-other ks S c 1 v (omega arith) n)
 
   fits-two : fits ks S (a ∷ b ∷ []) 0 ≡ true
   fits-two =
@@ -166,8 +159,8 @@ module _ (ks standing own si oi : List ℕ) (usual : Usual standing si oi) where
   abbrev find : List ℕ → Fitting
   find = fittingOf ks standing own si oi
 
-  begins : standing ≡ opening ++ drop 43 standing
-  begins = sym (take-append-drop 43 standing) ∙ ap (λ (l : List ℕ). l ++ drop 43 standing) (usual .begins)
+  begins : standing ≡ opening ++ drop 50 standing
+  begins = sym (take-append-drop 50 standing) ∙ ap (λ (l : List ℕ). l ++ drop 50 standing) (usual .begins)
 
   -- in the part of the list where the rules of the root stand
   finds : (a b : ℕ) (rules ss : List ℕ) (at n : ℕ) → (spanOf si (length standing) (getD ss 0 0) .from ≡ a) × (spanOf si (length standing) (getD ss 0 0) .to ≡ b)
@@ -182,7 +175,7 @@ module _ (ks standing own si oi : List ℕ) (usual : Usual standing si oi) where
   guards = take 14 opening
 
   abbrev tests : List ℕ
-  tests = drop 14 opening
+  tests = take 29 (drop 14 opening)
 
   guards-there : take 14 (drop 0 standing) ≡ guards
   guards-there = ap (take 14) begins
@@ -217,15 +210,15 @@ module _ (ks standing own si oi : List ℕ) (usual : Usual standing si oi) where
 
   module _ (ws : List ℕ) where
     -- the words 9 and c are not those of the rule for d
-    other : (c d : ℕ) (ps : List ℕ) → isVar c ≡ false → isVar d ≡ false → d ≢ c → fits ks (9 ∷ c ∷ ws) (9 ∷ d ∷ ps) 0 ≡ false
-    other c d ps vc vd n = fits-other ks 9 c refl vc ws d ps vd n
+    other : (c d : ℕ) (ps : List ℕ) → isVar d ≡ false → d ≢ c → fits ks (9 ∷ c ∷ ws) (9 ∷ d ∷ ps) 0 ≡ false
+    other c d ps v n = fits-other ks 9 c d ws ps refl v n
 
     zero-tested : Tested 1 ws
     zero-tested =
         record {
           there = 21;
           fitting = finds 14 43 tests (9 ∷ 1 ∷ ws) 7 5 (usual .tests) tests-there
-              (at-next ks (9 ∷ 1 ∷ ws) tests 0 3 2 (omega arith) refl refl (omega arith) (other 1 2 (64 ∷ []) refl refl (λ e. absurd (omega arith)))
+              (at-next ks (9 ∷ 1 ∷ ws) tests 0 3 2 (omega arith) refl refl (omega arith) (other 1 2 (64 ∷ []) refl (λ e. absurd (omega arith)))
               ∙ at-found ks (9 ∷ 1 ∷ ws) tests 7 2 1 (omega arith) refl refl (omega arith) (fits-two ks 9 1 refl refl ws));
           rule = ap (λ (l : List ℕ). take 5 (drop 21 l)) begins;
           plain = refl;
@@ -236,8 +229,8 @@ module _ (ks standing own si oi : List ℕ) (usual : Usual standing si oi) where
         record {
           there = 26;
           fitting = finds 14 43 tests (9 ∷ 3 ∷ ws) 12 5 (usual .tests) tests-there
-              (at-next ks (9 ∷ 3 ∷ ws) tests 0 3 2 (omega arith) refl refl (omega arith) (other 3 2 (64 ∷ []) refl refl (λ e. absurd (omega arith)))
-              ∙ at-next ks (9 ∷ 3 ∷ ws) tests 7 2 1 (omega arith) refl refl (omega arith) (other 3 1 [] refl refl (λ e. absurd (omega arith)))
+              (at-next ks (9 ∷ 3 ∷ ws) tests 0 3 2 (omega arith) refl refl (omega arith) (other 3 2 (64 ∷ []) refl (λ e. absurd (omega arith)))
+              ∙ at-next ks (9 ∷ 3 ∷ ws) tests 7 2 1 (omega arith) refl refl (omega arith) (other 3 1 [] refl (λ e. absurd (omega arith)))
               ∙ at-found ks (9 ∷ 3 ∷ ws) tests 12 2 1 (omega arith) refl refl (omega arith) (fits-two ks 9 3 refl refl ws));
           rule = ap (λ (l : List ℕ). take 5 (drop 26 l)) begins;
           plain = refl;
@@ -248,9 +241,9 @@ module _ (ks standing own si oi : List ℕ) (usual : Usual standing si oi) where
         record {
           there = 31;
           fitting = finds 14 43 tests (9 ∷ 4 ∷ ws) 17 5 (usual .tests) tests-there
-              (at-next ks (9 ∷ 4 ∷ ws) tests 0 3 2 (omega arith) refl refl (omega arith) (other 4 2 (64 ∷ []) refl refl (λ e. absurd (omega arith)))
-              ∙ at-next ks (9 ∷ 4 ∷ ws) tests 7 2 1 (omega arith) refl refl (omega arith) (other 4 1 [] refl refl (λ e. absurd (omega arith)))
-              ∙ at-next ks (9 ∷ 4 ∷ ws) tests 12 2 1 (omega arith) refl refl (omega arith) (other 4 3 [] refl refl (λ e. absurd (omega arith)))
+              (at-next ks (9 ∷ 4 ∷ ws) tests 0 3 2 (omega arith) refl refl (omega arith) (other 4 2 (64 ∷ []) refl (λ e. absurd (omega arith)))
+              ∙ at-next ks (9 ∷ 4 ∷ ws) tests 7 2 1 (omega arith) refl refl (omega arith) (other 4 1 [] refl (λ e. absurd (omega arith)))
+              ∙ at-next ks (9 ∷ 4 ∷ ws) tests 12 2 1 (omega arith) refl refl (omega arith) (other 4 3 [] refl (λ e. absurd (omega arith)))
               ∙ at-found ks (9 ∷ 4 ∷ ws) tests 17 2 1 (omega arith) refl refl (omega arith) (fits-two ks 9 4 refl refl ws));
           rule = ap (λ (l : List ℕ). take 5 (drop 31 l)) begins;
           plain = refl;
@@ -314,7 +307,7 @@ module _ (ks standing own si oi : List ℕ) (usual : Usual standing si oi) (pre 
       ∙ ruled-below ks pre rule (9 ∷ 2 ∷ ws) (9 ∷ ws) (λ front. ruled-succ ks front ws e h)
 
   -- guard(isData(c), y) -> guard(tt, y)
-  pub data-base : (c : ℕ) (ws : List ℕ) → (c ≡ 1) ⊎ ((c ≡ 3) ⊎ (c ≡ 4)) → N (pre ++ 7 ∷ 9 ∷ c ∷ ws) ≡ some (pre ++ 7 ∷ 5 ∷ ws)
+  pub data-base : (c : ℕ) (ws : List ℕ) → Base c → N (pre ++ 7 ∷ 9 ∷ c ∷ ws) ≡ some (pre ++ 7 ∷ 5 ∷ ws)
   data-base c ws b =
       let t = base-tested ks standing own si oi usual ws c b in
       let site = site-tested ks F pre 9 (c ∷ ws) (Standing (t .there) 5) (omega arith) (t .fitting) refl in
@@ -329,7 +322,7 @@ module _ (ks standing own si oi : List ℕ) (usual : Usual standing si oi) (pre 
       next-at (7 ∷ 5 ∷ ws) (length pre) 0 6 rule site (ap (λ (l : List ℕ). take 6 (drop 0 l)) (begins ks standing own si oi usual)) ∙ ruled-guard ks pre ws e h
 
   -- THE VALUE IS PASSED: k succs and c under isData under guard, before the words ws
-  pub value-passes : (room k c : ℕ) (ws : List ℕ) (e : ℕ) → (c ≡ 1) ⊎ ((c ≡ 3) ⊎ (c ≡ 4)) → past (arityOf ks) ws 1 0 ≡ End e → length pre + (k + 3 + length ws) ≤ room
+  pub value-passes : (room k c : ℕ) (ws : List ℕ) (e : ℕ) → Base c → past (arityOf ks) ws 1 0 ≡ End e → length pre + (k + 3 + length ws) ≤ room
       → Leads N room (k + 2) (pre ++ 7 ∷ 9 ∷ (replicate k 2 ++ c ∷ ws)) (pre ++ ws)
   value-passes room zero c ws e b h r =
       (pre ++ 7 ∷ 5 ∷ ws, (data-base c ws b, (omega (arith, r, length-append pre (7 ∷ 5 ∷ ws)), (pre ++ ws, (guard-tt ws e h, (omega (arith, r, length-append pre ws), refl))))))

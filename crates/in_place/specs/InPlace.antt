@@ -2,14 +2,11 @@
 -- and a test's, f_i(x1..xn) -> guard(isData(xi), f_i+1(x1..xn)), which leads to f_i+1(x1..xn) where xi is a value.
 use Prim.Native.Nat.{ℕ, zero, suc, _+_, _-_, _*_, _≤_, _<_}
 use mathlib.Core.Path.{_≡_}
-use mathlib.Core.Logic.{_⊎_}
-use mathlib.Core.Bool.{Bool, true, false}
 use mathlib.Core.Option.{Option, some}
 use mathlib.Core.List.{List, [], _∷_}
-use lib.Dec.{ltb}
 use lib.ListN.{length, getD, take, drop, set}
 use Rattle.words.specs.Terms.{arityOf, succsEnd}
-use Rattle.rules.specs.Index.{slotOf, spanOf}
+use Rattle.rules.specs.Usual.{Base}
 use Rattle.rules.specs.declared.finding.Fitting.{Fitting}
 use Rattle.place.specs.declared.Site.{Site}
 use Rattle.place.specs.declared.Site.the-variants.{Nothing, At}
@@ -68,33 +65,9 @@ pub record Tests (ks rule : List ℕ) (n : ℕ) : Type 0 where
   pub parts : arityOf ks (getD rule (n + 6) 0) ≡ n
   pub all : take n (drop (n + 7) rule) ≡ vars 64 n
 
--- 0, True and False
-abbrev pub Base : ℕ → Type 0
-Base c = (c ≡ 1) ⊎ ((c ≡ 3) ⊎ (c ≡ 4))
-
 -- at the place q of the term t stands a value, whose test has so many steps, and as many words more fit the room
 pub record Passes (t : List ℕ) (q room steps : ℕ) : Type 0 where
   pub inside : succsEnd (drop q t) q < length t
   pub base : Base (getD t (succsEnd (drop q t) q) 0)
   pub count : steps ≡ succsEnd (drop q t) q - q + 3
   pub fits : length t + steps ≤ room
-
--- the rules of guard and of isData, with which the usual standing list begins
-abbrev pub opening : List ℕ
-opening =
-    3 ∷ 1 ∷ 7 ∷ 5 ∷ 64 ∷ 64
-    ∷ 4 ∷ 2 ∷ 7 ∷ 6 ∷ 64 ∷ 65 ∷ 6 ∷ 64
-    ∷ 3 ∷ 2 ∷ 9 ∷ 2 ∷ 64 ∷ 9 ∷ 64
-    ∷ 2 ∷ 1 ∷ 9 ∷ 1 ∷ 5
-    ∷ 2 ∷ 1 ∷ 9 ∷ 3 ∷ 5
-    ∷ 2 ∷ 1 ∷ 9 ∷ 4 ∷ 5
-    ∷ 3 ∷ 2 ∷ 9 ∷ 6 ∷ 64 ∷ 6 ∷ 64
-    ∷ []
-
--- the standing list begins so, its index has guard's and isData's rules there, and tt, the word 5, has no rules in either list
-pub record Usual (standing standingIndex ownIndex : List ℕ) : Type 0 where
-  pub begins : take 43 standing ≡ opening
-  pub guards : (spanOf standingIndex (length standing) 7 .from ≡ 0) × (spanOf standingIndex (length standing) 7 .to ≡ 14)
-  pub tests : (spanOf standingIndex (length standing) 9 .from ≡ 14) × (spanOf standingIndex (length standing) 9 .to ≡ 43)
-  pub no-standing : ltb 0 (getD standingIndex (2 * slotOf 5 + 1) 0) ≡ false
-  pub no-own : ltb 0 (getD ownIndex (2 * slotOf 5 + 1) 0) ≡ false

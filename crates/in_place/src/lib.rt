@@ -1,7 +1,6 @@
 // Steps that are made where the term stands, because it differs in one word afterwards: a call's first step, f to f_1, and the steps of
 // a test that passes, f_i to f_i+1, whose part i is a value. A test of a value of k succs has k + 3 steps.
 pub mod shapes;
-pub mod usual;
 
 use crate::shapes::is_call;
 use crate::shapes::is_renaming;
@@ -10,6 +9,7 @@ use crate::shapes::parts;
 use place::Site;
 use place::rule_of;
 use place::site_on;
+use rules::usual::is_base;
 use words::terms::Reach;
 use words::terms::skip_many;
 use words::terms::succs_end;
@@ -18,27 +18,16 @@ ghost use mathlib.Core.Bool.{true};
 ghost use Prim.Native.Nat.{_≤_, _<_};
 ghost use lib.ListN.{length, take};
 ghost use Rattle.rules.specs.Finding.{fittingOf};
+ghost use Rattle.rules.specs.Usual.{Usual};
 ghost use Rattle.place.specs.Path.{siteAt};
 ghost use Rattle.place.specs.Noted.{OnPath, Numbered};
 ghost use Rattle.step.specs.Next.{nextW};
-ghost use Rattle.in_place.specs.InPlace.{Base, Passes, Usual, Changes, Passing};
+ghost use Rattle.in_place.specs.InPlace.{Passes, Changes, Passing};
 
 // So many steps, after which the word at the place is this; no steps where there is no such way.
 pub struct Change {
     pub steps: usize,
     pub word: u16,
-}
-
-// 0, True and False.
-fn is_base(w: u16) -> bool
-    ensures { λ r. ⌜ (r ≡ true → Base w) ⌝ }
-{
-    match w {
-        1 => true,
-        3 => true,
-        4 => true,
-        _ => false,
-    }
 }
 
 // The steps of the test of what stands at q; 0 where that is no value, or the terms on the way do not fit the room.
@@ -144,6 +133,7 @@ pub fn pass<'a>(
             standing_index,
             own_index,
             &term[..size],
+            usual,
             path,
             n,
         );

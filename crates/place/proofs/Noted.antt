@@ -21,7 +21,7 @@ use Rattle.rules.specs.Finding.{isFound}
 use Rattle.rules.specs.declared.finding.Fitting.{Fitting}
 use Rattle.rules.specs.declared.finding.Fitting.the-variants.{Nowhere}
 use Rattle.place.specs.Path.{below, belowAt, hereAt, hereIn, isAt, siteAt}
-use Rattle.place.specs.Noted.{OnPath, Deepest, Numbered}
+use Rattle.place.specs.Noted.{OnPath, Numbered}
 use Rattle.place.specs.declared.Site.{Site}
 use Rattle.place.specs.declared.Site.the-variants.{Nothing, At}
 use Rattle.place.proofs.Path.{below-reach, below-further, site-out, site-short, site-deeper, site-here}
@@ -99,7 +99,7 @@ module _ (ks : List ℕ) (find : List ℕ → Fitting) (ws : List ℕ) where
   here-outside at h = sym (ap (λ (b : Bool). pick b (hereAt find (drop at ws) at) Nothing) (le-ltb at (length ws) h))
 
   -- where the path goes no further, only the place itself is left
-  pub site-deepest : (at : ℕ) → Deepest ks ws at → siteAt ks find ws at ≡ hereIn find ws at
+  pub site-deepest : (at : ℕ) → (at < length ws → belowAt ks ws at ≡ Short) → siteAt ks find ws at ≡ hereIn find ws at
   site-deepest at d = go (ltb at (length ws)) refl
     where
       go : (b : Bool) → ltb at (length ws) ≡ b → siteAt ks find ws at ≡ hereIn find ws at
@@ -164,7 +164,7 @@ module _ (ks : List ℕ) (find : List ℕ → Fitting) (ws : List ℕ) where
           site-up (i - 1) (omega arith) (ap (λ (j : ℕ). siteAt ks find ws (getD path j 0)) e ∙ nothing t)
 
 -- ---- a step leaves the path up to the rewritten place
-drop-take : (a q : ℕ) (l : List ℕ) → drop a (take q l) ≡ take (q - a) (drop a l)
+pub drop-take : (a q : ℕ) (l : List ℕ) → drop a (take q l) ≡ take (q - a) (drop a l)
 drop-take zero q l = ap (λ (k : ℕ). take k l) (sym (sub-zero q))
 drop-take (suc a) q [] = ap (drop (suc a)) (take-nil q) ∙ sym (take-nil (q - suc a))
 drop-take (suc a) zero (w ∷ l) = sym (ap (λ (k : ℕ). take k (drop a l)) (zero-sub (suc a)))

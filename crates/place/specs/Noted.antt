@@ -3,7 +3,7 @@ use Prim.Native.Nat.{ℕ, _+_, _≤_, _<_}
 use mathlib.Core.List.{List}
 use mathlib.Core.Path.{_≡_}
 use lib.ListN.{length, getD}
-use Rattle.words.specs.declared.terms.Reach.the-variants.{End, Short}
+use Rattle.words.specs.declared.terms.Reach.the-variants.{End}
 use Rattle.place.specs.Path.{belowAt}
 use Rattle.place.specs.declared.Site.{Site}
 use Rattle.place.specs.declared.Site.the-variants.{Nothing, At}
@@ -13,10 +13,6 @@ pub record OnPath (ks ws path : List ℕ) (n : ℕ) : Type 0 where
   pub root : getD path 0 0 ≡ 0
   pub ends : getD path n 0 ≤ length ws
   pub steps : (i : ℕ) → i < n → belowAt ks ws (getD path i 0) ≡ End (getD path (i + 1) 0)
-
--- the path goes no further than the place at
-abbrev pub Deepest : List ℕ → List ℕ → ℕ → Type 0
-Deepest ks ws at = at < length ws → belowAt ks ws at ≡ Short
 
 -- a place that was found is the noted one of that number
 abbrev pub Numbered : List ℕ → List ℕ → List ℕ → Site → ℕ → Type 0

@@ -1,16 +1,21 @@
 // Where a term is rewritten: the deepest place that some rule fits, on the one path from the root, and the rule that fits there.
 use rules::finding::Fitting;
 use rules::finding::find_place;
+use rules::usual::is_base;
 use words::terms::Reach;
 use words::terms::arity;
 use words::terms::skip_many;
+use words::terms::succs_end;
 ghost use mathlib.Core.Path.{_≡_};
+ghost use mathlib.Core.Bool.{true};
 ghost use Prim.Native.Nat.{_<_};
-ghost use lib.ListN.{length, getD};
+ghost use lib.ListN.{length, getD, drop};
 ghost use Rattle.theory.specs.Tree.{active};
+ghost use Rattle.words.specs.Terms.{succsEnd};
 ghost use Rattle.rules.specs.Finding.{isFound, fittingOf, Handed};
+ghost use Rattle.rules.specs.Usual.{Base, Usual};
 ghost use Rattle.place.specs.Path.{RuleWithin, belowAt, hereIn, isAt, siteAt};
-ghost use Rattle.place.specs.Noted.{OnPath, Deepest, Numbered};
+ghost use Rattle.place.specs.Noted.{OnPath, Numbered};
 
 // The place that is rewritten, and where the rule that fits there stands.
 pub enum Site {
@@ -105,16 +110,52 @@ fn is_at(site: Site) -> bool
     }
 }
 
-// Goes down the path from its noted place `last`, notes each further place, and answers the number of the deepest.
-fn descend(arities: &[u8], term: &[u16], path: &mut [usize], last: usize) -> usize
+// Whether the search stops at the place: a value stands there, and nothing fits in a value where the lists are usual. A run of succs is
+// looked through once, at its first: only that place is `fresh`.
+fn stops(usual: bool, fresh: bool, term: &[u16], at: usize) -> bool
+    ensures { λ r. ⌜ (r ≡ true → (usual ≡ true) × ((succsEnd (drop at (now (term .entry))) at < length (now (term .entry))) × Base (getD (now (term .entry)) (succsEnd (drop at (now (term .entry))) at) 0))) ⌝ }
+{
+    if !usual {
+        return false;
+    }
+    if !fresh {
+        return false;
+    }
+    let e = succs_end(term, at);
+    if term.len() <= e {
+        return false;
+    }
+    is_base(term[e])
+}
+
+// Goes down the path from its noted place `last`, notes each further place, and answers the number of the last: below it nothing fits,
+// since the path ends there or a value stands there.
+fn descend(
+    arities: &[u8],
+    standing: &[u16],
+    own: &[u16],
+    standing_index: &[usize],
+    own_index: &[usize],
+    term: &[u16],
+    usual: bool,
+    path: &mut [usize],
+    last: usize,
+) -> usize
     requires { ⌜ length (now term) < length (now path) ⌝ }
     requires { ⌜ OnPath (now arities) (now term) (now path) last ⌝ }
+    requires { ⌜ (usual ≡ true → Usual (now standing) (now «standing_index») (now «own_index»)) ⌝ }
     ensures { λ r. ⌜ OnPath (now (arities .entry)) (now (term .entry)) (now (path .exit)) r ⌝ }
-    ensures deepest { λ r. ⌜ Deepest (now (arities .entry)) (now (term .entry)) (getD (now (path .exit)) r 0) ⌝ }
+    ensures bare { λ r. ⌜ siteAt (now (arities .entry)) (fittingOf (now (arities .entry)) (now (standing .entry)) (now (own .entry)) (now («standing_index» .entry)) (now («own_index» .entry))) (now (term .entry)) (getD (now (path .exit)) r 0) ≡ hereIn (fittingOf (now (arities .entry)) (now (standing .entry)) (now (own .entry)) (now («standing_index» .entry)) (now («own_index» .entry))) (now (term .entry)) (getD (now (path .exit)) r 0) ⌝ }
 {
     let mut n = last;
     let mut at = path[n];
+    // Not under a succ.
+    let mut fresh = true;
     while at < term.len() {
+        if stops(usual, fresh, term, at) {
+            return n;
+        }
+        fresh = term[at] != 2;
         match below(arities, term, at) {
             Reach::Short => {
                 return n;
@@ -135,7 +176,7 @@ pub struct Found {
     pub number: usize,
 }
 
-// Goes up the noted path from its deepest place to the first where some rule fits.
+// Goes up the noted path, from a place of it below which nothing fits, to the first where some rule fits.
 fn climb(
     arities: &[u8],
     standing: &[u16],
@@ -148,7 +189,7 @@ fn climb(
 ) -> Found
     requires { ⌜ length (now term) < length (now path) ⌝ }
     requires { ⌜ OnPath (now arities) (now term) (now path) deepest ⌝ }
-    requires { ⌜ Deepest (now arities) (now term) (getD (now path) deepest 0) ⌝ }
+    requires { ⌜ siteAt (now arities) (fittingOf (now arities) (now standing) (now own) (now «standing_index») (now «own_index»)) (now term) (getD (now path) deepest 0) ≡ hereIn (fittingOf (now arities) (now standing) (now own) (now «standing_index») (now «own_index»)) (now term) (getD (now path) deepest 0) ⌝ }
     ensures { λ r. ⌜ r .site ≡ siteAt (now (arities .entry)) (fittingOf (now (arities .entry)) (now (standing .entry)) (now (own .entry)) (now («standing_index» .entry)) (now («own_index» .entry))) (now (term .entry)) 0 ⌝ }
     ensures noted { λ r. ⌜ Numbered (now (arities .entry)) (now (term .entry)) (now (path .entry)) (r .site) (r .number) ⌝ }
 {
@@ -174,7 +215,7 @@ fn climb(
 }
 
 // The deepest place of the path that some rule fits. The path is noted up to its place number `last`: the search goes on from there,
-// down to the end and then up to where a rule fits.
+// down to where nothing fits any deeper, and then up to where a rule fits. In a value nothing does where the lists are usual.
 pub fn site_on(
     arities: &[u8],
     standing: &[u16],
@@ -182,15 +223,27 @@ pub fn site_on(
     standing_index: &[usize],
     own_index: &[usize],
     term: &[u16],
+    usual: bool,
     path: &mut [usize],
     last: usize,
 ) -> Found
     requires { ⌜ length (now term) < length (now path) ⌝ }
     requires { ⌜ OnPath (now arities) (now term) (now path) last ⌝ }
+    requires { ⌜ (usual ≡ true → Usual (now standing) (now «standing_index») (now «own_index»)) ⌝ }
     ensures { λ r. ⌜ r .site ≡ siteAt (now (arities .entry)) (fittingOf (now (arities .entry)) (now (standing .entry)) (now (own .entry)) (now («standing_index» .entry)) (now («own_index» .entry))) (now (term .entry)) 0 ⌝ }
     ensures noted { λ r. ⌜ Numbered (now (arities .entry)) (now (term .entry)) (now (path .exit)) (r .site) (r .number) ⌝ }
 {
-    let deepest = descend(arities, term, path, last);
+    let deepest = descend(
+        arities,
+        standing,
+        own,
+        standing_index,
+        own_index,
+        term,
+        usual,
+        path,
+        last,
+    );
     climb(
         arities,
         standing,

@@ -2,7 +2,7 @@
 use mathlib.Core.Path.{_≡_, refl, ap, _∙_}
 use mathlib.Core.Logic.{_≢_}
 use mathlib.Core.Bool.{Bool, true, false}
-use mathlib.Core.List.{List}
+use mathlib.Core.List.{List, _∷_}
 use Prim.Native.Nat.{ℕ, _+_, _-_, _≤_, _<_}
 use native.Mathlib.Omega.{arith}
 use lib.Dec.{eqb, leb, ltb}
@@ -95,3 +95,9 @@ module _ (ks ss left : List ℕ) (i j : ℕ) where
     binds-plain s t e v q =
         binds-next s t e q
         ∙ ap (λ (b : Bool). binds ks ss (drop (i + 1) left) e (pick b (set s (getD left i 0 - 64) j) s) (pick b (set t (getD left i 0 - 64) e) t)) v
+
+-- a left side whose second word is not the subject's does not fit
+pub fits-other : (ks : List ℕ) (a b c : ℕ) (ws ps : List ℕ) → isVar a ≡ false → isVar c ≡ false → c ≢ b → fits ks (a ∷ b ∷ ws) (a ∷ c ∷ ps) 0 ≡ false
+fits-other ks a b c ws ps va vc n =
+    fits-next ks (a ∷ b ∷ ws) (a ∷ c ∷ ps) 0 0 (omega arith) 1 (takes-same ks (a ∷ b ∷ ws) a 0 va (omega arith) refl)
+    ∙ fits-stop ks (a ∷ b ∷ ws) (a ∷ c ∷ ps) 1 1 (omega arith) (takes-other ks (a ∷ b ∷ ws) c 1 vc (omega arith) n)

@@ -4,3 +4,4 @@ pub mod Index
 pub mod Finding
 pub mod Table
 pub mod Program
+pub mod Usual

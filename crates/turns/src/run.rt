@@ -2,8 +2,8 @@
 // holds the term.
 use in_place::Passed;
 use in_place::pass;
-use in_place::usual::is_usual;
 use place::Site;
+use rules::usual::is_usual;
 use step::Next;
 use step::next_into;
 use words::slices::copy_into;
@@ -15,10 +15,11 @@ ghost use lib.Dec.{leb};
 ghost use lib.ListN.{length, getD, take, replicate};
 ghost use Rattle.theory.specs.Buffers.{over, padded};
 ghost use Rattle.rules.specs.Finding.{fittingOf};
+ghost use Rattle.rules.specs.Usual.{Usual};
 ghost use Rattle.place.specs.Path.{siteAt};
 ghost use Rattle.place.specs.Noted.{OnPath};
 ghost use Rattle.step.specs.Next.{nextW, nextIn};
-ghost use Rattle.in_place.specs.InPlace.{Usual, Passing};
+ghost use Rattle.in_place.specs.InPlace.{Passing};
 ghost use Rattle.turns.specs.Run.{Turned, Drove, isNothing, decided, source, ranOf, run, runFrom};
 
 // How a run ends.

@@ -37,7 +37,7 @@ site-on-requires : tie.Need-site-on-requires Inv-loop μ-loop
 site-on-requires c κs =
     let at = c .before .before in
     let start = at .before .before .before .before .before .before .before .before in
-    (omega (arith, length-take-le (start .args .size) (at .loop .term) (holds at), at .loop .inv .path-same, start .pre .0), at .loop .inv .on)
+    (omega (arith, length-take-le (start .args .size) (at .loop .term) (holds at), at .loop .inv .path-same, start .pre .0), (at .loop .inv .on, start .pre .1 .1 .0))
 
 slice-reshare-prefix-change-at : tie.Need-slice-reshare-prefix-change-at Inv-loop μ-loop
 slice-reshare-prefix-change-at c = holds (c .before .before .before .before .before)
@@ -58,7 +58,7 @@ same-length : tie.Need-same-length Inv-loop μ-loop
 same-length c = c .before .before .before .before .before .before .before .before .before .loop .inv .same
 
 same-length-2 : tie.Need-same-length-2 Inv-loop μ-loop
-same-length-2 c = c .before .before .before .before .before .before .site-on .kept .1 .1 .1 .1 .1 .1 .0 ∙ c .before .before .before .before .before .before .before .before .before .loop .inv .path-same
+same-length-2 c = c .before .before .before .before .before .before .site-on .kept .1 .1 .1 .1 .1 .1 .1 .0 ∙ c .before .before .before .before .before .before .before .before .before .loop .inv .path-same
 
 returns : tie.Need-returns Inv-loop μ-loop
 returns c =
@@ -66,7 +66,7 @@ returns c =
     let at = found .before .before .before in
     let a = at .before .before .before .before .before .before .before .before .args in
     stopped (a .arities .now) (a .standing .now) (a .own .now) (a .standing-index .now) (a .own-index .now) (a .room) (a .left) (a .size) (a .term .now) (a .path .now) (at .loop .term) (at .loop .path) (at .loop .steps) (at .loop .n)
-    (at .loop .inv) (found .site-on .result .site) (found .site-on .result .number) (found .site-on .last .1 .1 .1 .1 .1 .1 .0) (found .site-on .ensures .0) (found .site-on .ensures .1)
+    (at .loop .inv) (found .site-on .result .site) (found .site-on .result .number) (found .site-on .last .1 .1 .1 .1 .1 .1 .1 .0) (found .site-on .ensures .0) (found .site-on .ensures .1)
 
 sub-if2 : tie.Need-sub-if2 Inv-loop μ-loop
 sub-if2 c = c .before .before .before .before .before .before .before .before .before .loop .inv .within
@@ -75,7 +75,7 @@ same-length-3 : tie.Need-same-length-3 Inv-loop μ-loop
 same-length-3 c = c .before .before .before .before .before .before .before .before .before .before .loop .inv .same
 
 same-length-4 : tie.Need-same-length-4 Inv-loop μ-loop
-same-length-4 c = c .before .before .before .before .before .before .before .site-on .kept .1 .1 .1 .1 .1 .1 .0 ∙ c .before .before .before .before .before .before .before .before .before .before .loop .inv .path-same
+same-length-4 c = c .before .before .before .before .before .before .before .site-on .kept .1 .1 .1 .1 .1 .1 .1 .0 ∙ c .before .before .before .before .before .before .before .before .before .before .loop .inv .path-same
 
 returns-2 : tie.Need-returns-2 Inv-loop μ-loop
 returns-2 c =
@@ -83,14 +83,14 @@ returns-2 c =
     let at = found .before .before .before in
     let a = at .before .before .before .before .before .before .before .before .args in
     stopped (a .arities .now) (a .standing .now) (a .own .now) (a .standing-index .now) (a .own-index .now) (a .room) (a .left) (a .size) (a .term .now) (a .path .now) (at .loop .term) (at .loop .path) (at .loop .steps) (at .loop .n)
-    (at .loop .inv) (found .site-on .result .site) (found .site-on .result .number) (found .site-on .last .1 .1 .1 .1 .1 .1 .0) (found .site-on .ensures .0) (found .site-on .ensures .1)
+    (at .loop .inv) (found .site-on .result .site) (found .site-on .result .number) (found .site-on .last .1 .1 .1 .1 .1 .1 .1 .0) (found .site-on .ensures .0) (found .site-on .ensures .1)
 
 -- a further change is made
 further : (c : tie.Else2 Inv-loop μ-loop)
     → let found = c .before .before .before .before .before .before .before in
     let at = found .before .before .before in
     let a = at .before .before .before .before .before .before .before .before .args in
-    let path = found .site-on .last .1 .1 .1 .1 .1 .1 .0 in
+    let path = found .site-on .last .1 .1 .1 .1 .1 .1 .1 .0 in
     let p = getD path (found .site-on .result .number) 0 in
     (p < a .size) × (found .site-on .result .number ≤ a .size)
     × Going (a .arities .now) (a .standing .now) (a .own .now) (a .standing-index .now) (a .own-index .now) (a .room) (a .left) (a .size) (a .term .now) (a .path .now)
@@ -101,8 +101,8 @@ further c =
     let a = at .before .before .before .before .before .before .before .before .args in
     let change = c .before .before in
     goes-on (a .arities .now) (a .standing .now) (a .own .now) (a .standing-index .now) (a .own-index .now) (a .room) (a .left) (a .size) (a .term .now) (a .path .now) (at .loop .term) (at .loop .path) (at .loop .steps) (at .loop .n)
-    (at .loop .inv) (found .site-on .result .site) (found .site-on .result .number) (found .site-on .last .1 .1 .1 .1 .1 .1 .0) (found .site-on .ensures .0) (found .site-on .ensures .1)
-    (change .change-at .result) (change .change-at .ensures .0) (c .before .if1 .left) (holds at) (omega (arith, c .if2 .left)) (found .site-on .kept .1 .1 .1 .1 .1 .1 .0)
+    (at .loop .inv) (found .site-on .result .site) (found .site-on .result .number) (found .site-on .last .1 .1 .1 .1 .1 .1 .1 .0) (found .site-on .ensures .0) (found .site-on .ensures .1)
+    (change .change-at .result) (change .change-at .ensures .0) (c .before .if1 .left) (holds at) (omega (arith, c .if2 .left)) (found .site-on .kept .1 .1 .1 .1 .1 .1 .1 .0)
 
 mul-term : tie.Need-mul-term Inv-loop μ-loop
 mul-term c =
@@ -114,7 +114,7 @@ slice-read-term : tie.Need-slice-read-term Inv-loop μ-loop
 slice-read-term c =
     let found = c .before .before .before .before .before .before .before .before in
     let at = found .before .before .before in
-    omega (arith, further (c .before) .1, found .site-on .kept .1 .1 .1 .1 .1 .1 .0, at .loop .inv .path-same, at .before .before .before .before .before .before .before .before .pre .0)
+    omega (arith, further (c .before) .1, found .site-on .kept .1 .1 .1 .1 .1 .1 .1 .0, at .loop .inv .path-same, at .before .before .before .before .before .before .before .before .pre .0)
 
 mul-term-2 : tie.Need-mul-term-2 Inv-loop μ-loop
 mul-term-2 c =

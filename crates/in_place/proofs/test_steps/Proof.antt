@@ -5,7 +5,8 @@ use native.Mathlib.Omega.{arith}
 use lib.ListN.{getD}
 use borrow.Author.Tests.{not-false}
 use Rattle.words.proofs.Skips.{succs-from}
-use Rattle.in_place.specs.InPlace.{Base, Passes}
+use Rattle.rules.specs.Usual.{Base}
+use Rattle.in_place.specs.InPlace.{Passes}
 use borrow.Author.Needs.{needs}
 use Rattle.in_place.proofs.test_steps.Statement.{statement}
 use Rattle.in_place.proofs.test_steps.Tie as tie

@@ -1,12 +1,12 @@
 -- `place::climb` meets its contract. The loop's invariant: of what is at or below the place number n, only the place itself is left.
-use mathlib.Core.Path.{_≡_, refl, sym, ap, subst, _∙_}
-use Prim.Native.Nat.{ℕ, _+_, _-_, _≤_, _<_}
+use mathlib.Core.Path.{_≡_, sym, _∙_}
+use Prim.Native.Nat.{_-_, _≤_}
 use native.Mathlib.Omega.{arith}
 use borrow.Author.Needs.{needs}
-use lib.ListN.{length, getD}
+use lib.ListN.{getD}
 use Rattle.rules.specs.Finding.{fittingOf}
 use Rattle.place.specs.Path.{hereIn, siteAt}
-use Rattle.place.proofs.Noted.{number-within, site-deepest, climb-found, climb-ended, climb-on}
+use Rattle.place.proofs.Noted.{number-within, climb-found, climb-ended, climb-on}
 use Rattle.place.proofs.climb.Statement.{statement}
 use Rattle.place.proofs.climb.Tie as tie
 
@@ -21,8 +21,7 @@ abbrev μ-loop : tie.MeasureT-loop
 loop-holds : tie.Need-loop-holds Inv-loop μ-loop
 loop-holds c =
     let start = c .before .before .before .before .before .before .before in
-    let a = start .args in
-    (omega arith, site-deepest (a .arities .now) (fittingOf (a .arities .now) (a .standing .now) (a .own .now) (a .standing-index .now) (a .own-index .now)) (a .term .now) (getD (a .path .now) (a .deepest) 0) (start .pre .1 .1))
+    (omega arith, start .pre .1 .1)
 
 mul-here : tie.Need-mul-here Inv-loop μ-loop
 mul-here c =

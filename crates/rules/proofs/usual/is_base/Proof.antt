@@ -1,8 +1,8 @@
--- `in_place::is_base` meets its contract.
+-- `usual::is_base` meets its contract.
 use mathlib.Core.Bool.{false≢true}
 use mathlib.Core.Logic.{inl, inr}
-use Rattle.in_place.proofs.is_base.Statement.{statement}
-use Rattle.in_place.proofs.is_base.Tie as tie
+use Rattle.rules.proofs.usual.is_base.Statement.{statement}
+use Rattle.rules.proofs.usual.is_base.Tie as tie
 
 returns : tie.Need-returns
 returns c e = inl cc

@@ -3,8 +3,8 @@ use mathlib.Core.Path.{sym, _∙_}
 use mathlib.Core.Bool.{false≢true}
 use Rattle.words.proofs.Same.{same-true}
 use borrow.Author.Needs.{needs}
-use Rattle.in_place.proofs.usual.is_opened.Statement.{statement}
-use Rattle.in_place.proofs.usual.is_opened.Tie as tie
+use Rattle.rules.proofs.usual.is_opened.Statement.{statement}
+use Rattle.rules.proofs.usual.is_opened.Tie as tie
 
 returns : tie.Need-returns
 returns c e = absurd (false≢true e)

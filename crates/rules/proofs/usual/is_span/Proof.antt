@@ -2,10 +2,10 @@
 use mathlib.Core.Path.{sym, ap, _∙_}
 use mathlib.Core.Bool.{false≢true}
 use borrow.Author.Tests.{eqb-true}
 use Rattle.rules.specs.declared.index.Span.{Span}
 use borrow.Author.Needs.{needs}
-use Rattle.in_place.proofs.usual.is_span.Statement.{statement}
-use Rattle.in_place.proofs.usual.is_span.Tie as tie
+use Rattle.rules.proofs.usual.is_span.Statement.{statement}
+use Rattle.rules.proofs.usual.is_span.Tie as tie
 
 span-of-requires : tie.Need-span-of-requires
 span-of-requires c κs = search needs

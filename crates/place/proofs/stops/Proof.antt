@@ -1,0 +1,54 @@
+-- `place::stops` meets its contract.
+use mathlib.Core.Path.{subst}
+use mathlib.Core.Bool.{false≢true}
+use Prim.Native.Nat.{ℕ}
+use native.Mathlib.Omega.{arith}
+use borrow.Author.Needs.{needs}
+use borrow.Author.Tests.{not-false}
+use lib.ListN.{getD}
+use Rattle.rules.specs.Usual.{Base}
+use Rattle.place.proofs.stops.Statement.{statement}
+use Rattle.place.proofs.stops.Tie as tie
+
+returns : tie.Need-returns
+returns c e = absurd (false≢true e)
+
+returns-2 : tie.Need-returns-2
+returns-2 c e = absurd (false≢true e)
+
+succs-end-requires : tie.Need-succs-end-requires
+succs-end-requires c κs = search needs
+
+returns-3 : tie.Need-returns-3
+returns-3 c e = absurd (false≢true e)
+
+mul-is-base : tie.Need-mul-is-base
+mul-is-base c = search needs
+
+shared-slice-read-is-base : tie.Need-shared-slice-read-is-base
+shared-slice-read-is-base c = search needs
+
+is-base-requires : tie.Need-is-base-requires
+is-base-requires c κs = search needs
+
+returns-4 : tie.Need-returns-4
+returns-4 c e =
+    let inside = c .before .before in
+    let end = inside .before in
+    let first = end .before .before in
+    let is = end .succs-end .ensures in
+    let a = first .before .before .args in
+    (not-false _ (first .if1 .left), (omega (arith, is, inside .if3 .left), subst (λ (q : ℕ). Base (getD (a .term .now) q 0)) is (c .is-base .ensures e)))
+
+pub stops-spec : {M : Type 1} → statement M
+stops-spec =
+    tie.close
+    (tie.spec
+    returns
+    returns-2
+    succs-end-requires
+    returns-3
+    mul-is-base
+    shared-slice-read-is-base
+    is-base-requires
+    returns-4)
