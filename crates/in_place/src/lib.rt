@@ -12,7 +12,7 @@ use place::site_on;
 use rules::usual::is_base;
 use words::terms::Reach;
 use words::terms::skip_many;
-use words::terms::succs_end;
+use words::terms::root_of;
 ghost use mathlib.Core.Path.{_≡_};
 ghost use mathlib.Core.Bool.{true};
 ghost use Prim.Native.Nat.{_≤_, _<_};
@@ -36,7 +36,7 @@ fn test_steps(term: &[u16], q: usize, room: usize) -> usize
     ensures { λ r. ⌜ (0 < r → Passes (now (term .entry)) q room r) ⌝ }
     ensures small { λ r. ⌜ r ≤ 65536 ⌝ }
 {
-    let e = succs_end(term, q);
+    let e = root_of(term, q);
     if term.len() <= e {
         return 0;
     }

@@ -5,7 +5,7 @@ use rules::usual::is_base;
 use words::terms::Reach;
 use words::terms::arity;
 use words::terms::skip_many;
-use words::terms::succs_end;
+use words::terms::root_of;
 ghost use mathlib.Core.Path.{_≡_};
 ghost use mathlib.Core.Bool.{true};
 ghost use Prim.Native.Nat.{_<_};
@@ -121,7 +121,7 @@ fn stops(usual: bool, fresh: bool, term: &[u16], at: usize) -> bool
     if !fresh {
         return false;
     }
-    let e = succs_end(term, at);
+    let e = root_of(term, at);
     if term.len() <= e {
         return false;
     }

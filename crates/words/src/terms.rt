@@ -74,7 +74,7 @@ fn blocks_end(words: &[u16], at: usize) -> usize
 
 // The place of the first word, from `at` on, that is not succ's. A succ has one part, so a term ends where the one under its succs
 // does; values are such runs.
-pub fn succs_end(words: &[u16], at: usize) -> usize
+fn succs_end(words: &[u16], at: usize) -> usize
     ensures { λ r. ⌜ r ≡ succsEnd (drop at (now (words .entry))) at ⌝ }
 {
     let mut i = blocks_end(words, at);
@@ -88,7 +88,7 @@ pub fn succs_end(words: &[u16], at: usize) -> usize
 }
 
 // The same. Most terms do not begin with a succ: they are told by their first word.
-fn root_of(words: &[u16], at: usize) -> usize
+pub fn root_of(words: &[u16], at: usize) -> usize
     ensures { λ r. ⌜ r ≡ succsEnd (drop at (now (words .entry))) at ⌝ }
 {
     if at < words.len() {

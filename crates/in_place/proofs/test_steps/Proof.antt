@@ -11,8 +11,8 @@ use borrow.Author.Needs.{needs}
 use Rattle.in_place.proofs.test_steps.Statement.{statement}
 use Rattle.in_place.proofs.test_steps.Tie as tie
 
-succs-end-requires : tie.Need-succs-end-requires
-succs-end-requires c κs = search needs
+root-of-requires : tie.Need-root-of-requires
+root-of-requires c κs = search needs
 
 returns : tie.Need-returns
 returns c = (λ h. absurd (omega (arith, h)), omega arith)
@@ -30,7 +30,7 @@ returns-2 : tie.Need-returns-2
 returns-2 c = (λ h. absurd (omega (arith, h)), omega arith)
 
 sub-steps : tie.Need-sub-steps
-sub-steps c = succs-from _ _ _ (c .before .before .before .before .succs-end .ensures)
+sub-steps c = succs-from _ _ _ (c .before .before .before .before .root-of .ensures)
 
 add-steps : tie.Need-add-steps
 add-steps c = search needs
@@ -47,7 +47,7 @@ returns-4 c =
     let first = tested .before .before in
     let start = first .before .before .before in
     let a = start .args in
-    let is = first .before .succs-end .ensures in
+    let is = first .before .root-of .ensures in
     let fits = c .if3 .left in
     let base = tested .is-base .ensures (not-false _ (c .before .if2 .left)) in
     let passes : Passes (a .term .now) (a .q) (a .room) _ =
@@ -63,7 +63,7 @@ pub test-steps-spec : {M : Type 1} → statement M
 test-steps-spec =
     tie.close
     (tie.spec
-    succs-end-requires
+    root-of-requires
     returns
     mul-is-base
     shared-slice-read-is-base

@@ -16,8 +16,8 @@ returns c e = absurd (false≢true e)
 returns-2 : tie.Need-returns-2
 returns-2 c e = absurd (false≢true e)
 
-succs-end-requires : tie.Need-succs-end-requires
-succs-end-requires c κs = search needs
+root-of-requires : tie.Need-root-of-requires
+root-of-requires c κs = search needs
 
 returns-3 : tie.Need-returns-3
 returns-3 c e = absurd (false≢true e)
@@ -36,7 +36,7 @@ returns-4 c e =
     let inside = c .before .before in
     let end = inside .before in
     let first = end .before .before in
-    let is = end .succs-end .ensures in
+    let is = end .root-of .ensures in
     let a = first .before .before .args in
     (not-false _ (first .if1 .left), (omega (arith, is, inside .if3 .left), subst (λ (q : ℕ). Base (getD (a .term .now) q 0)) is (c .is-base .ensures e)))
 
@@ -46,7 +46,7 @@ stops-spec =
     (tie.spec
     returns
     returns-2
-    succs-end-requires
+    root-of-requires
     returns-3
     mul-is-base
     shared-slice-read-is-base
