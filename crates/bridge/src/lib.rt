@@ -28,7 +28,13 @@ ghost use Rattle.bridge.specs.Accepted.{Accepts, Listed, Runs};
 ghost use Rattle.bridge.specs.Calls.{Leaves};
 
 // The evaluator on a question whose program's own list is lent.
-fn evaluate_listed(question: &[u8], checked: Checked, own: &[u16], steps: u32, levels: u32) -> Report
+fn evaluate_listed(
+    question: &[u8],
+    checked: Checked,
+    own: &[u16],
+    steps: u32,
+    levels: u32,
+) -> Report
     requires { ⌜ Listed (now question) checked (now own) ⌝ }
     requires { ⌜ (steps ≤ 1000000) × (levels ≤ 1000) ⌝ }
     ensures { λ r. ⌜ ((l : Listed (now (question .entry)) checked (now (own .entry))) → r ≡ answerReport (evaluator (programOf (l .asks .accepts .checks .book)) levels steps (l .asks .accepts .term))) ⌝ }
@@ -37,11 +43,24 @@ fn evaluate_listed(question: &[u8], checked: Checked, own: &[u16], steps: u32, l
     let arities = checked.arities;
     let mut asked = [0u16; 512];
     let n = question_words(question, checked, &mut asked);
-    run_evaluator(&asked[0..n], &standing[..], own, &arities[..], steps, levels)
+    run_evaluator(
+        &asked[0..n],
+        &standing[..],
+        own,
+        &arities[..],
+        steps,
+        levels,
+    )
 }
 
 // The evaluator on an accepted program and question. No own list is longer than the array for it.
-fn evaluate_long(program: &[u8], question: &[u8], checked: Checked, steps: u32, levels: u32) -> Report
+fn evaluate_long(
+    program: &[u8],
+    question: &[u8],
+    checked: Checked,
+    steps: u32,
+    levels: u32,
+) -> Report
     requires { ⌜ Accepts (now program) (now question) checked ⌝ }
     requires { ⌜ (steps ≤ 1000000) × (levels ≤ 1000) ⌝ }
     ensures { λ r. ⌜ ((a : Accepts (now (program .entry)) (now (question .entry)) checked) → r ≡ answerReport (evaluator (programOf (a .checks .book)) levels steps (a .term))) ⌝ }

@@ -11,8 +11,8 @@ use place::rule_of;
 use place::site_on;
 use rules::usual::is_base;
 use words::terms::Reach;
-use words::terms::skip_many;
 use words::terms::root_of;
+use words::terms::skip_many;
 ghost use mathlib.Core.Path.{_≡_};
 ghost use mathlib.Core.Bool.{true};
 ghost use Prim.Native.Nat.{_≤_, _<_};
@@ -81,7 +81,10 @@ fn change_at<'a>(
         return Change { steps: 0, word: 0 };
     }
     if is_renaming(part, n) {
-        return Change { steps: 1, word: part[n + 3] };
+        return Change {
+            steps: 1,
+            word: part[n + 3],
+        };
     }
     if !usual {
         return Change { steps: 0, word: 0 };
@@ -91,7 +94,10 @@ fn change_at<'a>(
     }
     match skip_many(arities, term, place + 1, part[n + 5] - 64) {
         Reach::Short => Change { steps: 0, word: 0 },
-        Reach::End(q) => Change { steps: test_steps(term, q, room), word: part[n + 6] },
+        Reach::End(q) => Change {
+            steps: test_steps(term, q, room),
+            word: part[n + 6],
+        },
     }
 }
 
@@ -154,10 +160,18 @@ pub fn pass<'a>(
         );
         let more = change.steps;
         if more == 0 {
-            return Passed { steps, site, number: n };
+            return Passed {
+                steps,
+                site,
+                number: n,
+            };
         }
         if left - steps < more {
-            return Passed { steps, site, number: n };
+            return Passed {
+                steps,
+                site,
+                number: n,
+            };
         }
         term[path[n]] = change.word;
         steps += more;

@@ -88,7 +88,16 @@ fn apply_rule(
     if term.len() < e {
         return Next::Nothing;
     }
-    made_by(step_into(term, p, e, &rule[from..to], &b.starts, &b.ends, second, room))
+    made_by(step_into(
+        term,
+        p,
+        e,
+        &rule[from..to],
+        &b.starts,
+        &b.ends,
+        second,
+        room,
+    ))
 }
 
 // The next term, in the second buffer: the site, which is the deepest place of the path that a rule fits, is rewritten by that rule.

@@ -53,9 +53,10 @@ sub-settle c = c .before .before .loop .inv .0 .within
 settle-requires : tie.Need-settle-requires Inv-loop μ-loop
 settle-requires c κs =
     let at = c .before .before .before in
-    let start = at .before .before .before .before .before .before .before .before .before .before in
-    (omega (arith, start .pre .0, at .loop .inv .0 .fits, at .loop .inv .0 .first-length, at .loop .inv .0 .second-length, at .loop .inv .2),
-    (at .loop .inv .1, (at .before .is-usual .ensures, omega (arith, start .pre .1 .1))))
+    let start = at .before .before .before .before .before .before .before .before .before .before in (
+      omega (arith, start .pre .0, at .loop .inv .0 .fits, at .loop .inv .0 .first-length, at .loop .inv .0 .second-length, at .loop .inv .2),
+      (at .loop .inv .1, (at .before .is-usual .ensures, omega (arith, start .pre .1 .1))),
+    )
 
 add-steps : tie.Need-add-steps Inv-loop μ-loop
 add-steps c =
@@ -146,16 +147,17 @@ loop-again c =
     let f = set .settle .last .1 .1 .1 .1 .1 .0 in
     let s = set .settle .last .1 .1 .1 .1 .1 .1 .0 in
     let path = set .settle .last .1 .1 .1 .1 .1 .1 .1 .1 .1 .1 .1 .1 .0 in
-    let go = ap (λ (o : Next). decided o steps (a .allowance)) (sym (turned .turn .ensures .0)) ∙ sym (c .before .before .before .decide .ensures) ∙ c .before .n .given .1 in
-    (goes-on N (a .room) (a .allowance) (take (a .len) (a .first .now)) (a .first .now) (a .second .now) f s (turned .turn .last .1 .1 .1 .1 .1 .1 .0) (turned .turn .last .1 .1 .1 .1 .1 .1 .1 .0)
-    (at .loop .flip) (at .loop .size) steps (settled set) (turned .turn .ensures .1) (start .pre .0 .1 .0) (start .pre .0 .1 .1 .0) (c .before .n .given .0 .0) go
-    (turned .turn .kept .1 .1 .1 .1 .1 .1 .0) (turned .turn .kept .1 .1 .1 .1 .1 .1 .1 .0),
-    goes-on-path N (a .room) (a .allowance) (take (a .len) (a .first .now)) (a .first .now) (a .second .now) f s (turned .turn .last .1 .1 .1 .1 .1 .1 .0) (turned .turn .last .1 .1 .1 .1 .1 .1 .1 .0)
-    (at .loop .flip) (at .loop .size) steps (settled set) (turned .turn .ensures .1) (start .pre .0 .1 .0) (start .pre .0 .1 .1 .0) (a .arities .now) path (set .settle .result .number)
-    (c .before .n .given .0 .0) go (settled set .first-length) (settled set .second-length)
-    (next-on (a .arities .now) (a .standing .now) (a .own .now) (a .standing-index .now) (a .own-index .now) (take (at .loop .size) (source (at .loop .flip) f s)) path (set .settle .result .site)
-    (set .settle .result .number) (set .settle .ensures .0 .site) (set .settle .ensures .0 .numbered)),
-    set .settle .kept .1 .1 .1 .1 .1 .1 .1 .1 .1 .1 .1 .1 .0 ∙ at .loop .inv .2)
+    let go = ap (λ (o : Next). decided o steps (a .allowance)) (sym (turned .turn .ensures .0)) ∙ sym (c .before .before .before .decide .ensures) ∙ c .before .n .given .1 in (
+      goes-on N (a .room) (a .allowance) (take (a .len) (a .first .now)) (a .first .now) (a .second .now) f s (turned .turn .last .1 .1 .1 .1 .1 .1 .0) (turned .turn .last .1 .1 .1 .1 .1 .1 .1 .0)
+          (at .loop .flip) (at .loop .size) steps (settled set) (turned .turn .ensures .1) (start .pre .0 .1 .0) (start .pre .0 .1 .1 .0) (c .before .n .given .0 .0) go
+          (turned .turn .kept .1 .1 .1 .1 .1 .1 .0) (turned .turn .kept .1 .1 .1 .1 .1 .1 .1 .0),
+      goes-on-path N (a .room) (a .allowance) (take (a .len) (a .first .now)) (a .first .now) (a .second .now) f s (turned .turn .last .1 .1 .1 .1 .1 .1 .0) (turned .turn .last .1 .1 .1 .1 .1 .1 .1 .0)
+          (at .loop .flip) (at .loop .size) steps (settled set) (turned .turn .ensures .1) (start .pre .0 .1 .0) (start .pre .0 .1 .1 .0) (a .arities .now) path (set .settle .result .number)
+          (c .before .n .given .0 .0) go (settled set .first-length) (settled set .second-length)
+          (next-on (a .arities .now) (a .standing .now) (a .own .now) (a .standing-index .now) (a .own-index .now) (take (at .loop .size) (source (at .loop .flip) f s)) path (set .settle .result .site)
+          (set .settle .result .number) (set .settle .ensures .0 .site) (set .settle .ensures .0 .numbered)),
+      set .settle .kept .1 .1 .1 .1 .1 .1 .1 .1 .1 .1 .1 .1 .0 ∙ at .loop .inv .2,
+    )
 
 pub drive-spec : {M : Type 1} → statement M
 drive-spec =
