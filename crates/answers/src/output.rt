@@ -7,7 +7,7 @@ ghost use lib.ListN.{length};
 const PIECE: usize = 128;
 
 // Writes out what the buffer holds up to `at`.
-pub fn flush(out: &[u8], at: usize)
+pub(crate) fn flush(out: &[u8], at: usize)
     requires { ⌜ at ≤ length (now out) ⌝ }
 {
     io::write_all(1, &out[0..at]);

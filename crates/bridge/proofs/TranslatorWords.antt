@@ -1,5 +1,5 @@
 -- What is written for the engines of an accepted program and question: the own list's words, and the question's.
-use Prim.Native.Nat.{ℕ, zero, suc, _-_, _≤_}
+use Prim.Native.Nat.{ℕ, _-_, _≤_}
 use mathlib.Core.Path.{_≡_, refl, sym, ap, _∙_, subst}
 use mathlib.Core.Bool.{Bool, true, false}
 use mathlib.Core.List.{List}
@@ -11,12 +11,12 @@ use Rattle.theory.specs.Syntax.{pick}
 use Rattle.theory.specs.Words.{storedRules}
 use Rattle.theory.specs.Translation.{tree, ownList}
 use Rattle.theory.specs.Buffers.{over}
-use Rattle.theory.specs.Bytes.{good, Book, RuleAt, ruleCount, openedAt, nthArity, readProgram, programOf, Agrees}
+use Rattle.theory.specs.Bytes.{Book, programOf, Agrees}
 use Rattle.theory.proofs.Bounds.{question-fits}
 use Rattle.theory.proofs.Readability.{length-words}
 use Rattle.checker.specs.declared.Checked.{Checked}
-use Rattle.checker.specs.Answer.{checkedOf, table, padded}
-use Rattle.checker.proofs.Callers.{functions-most, rules-most, within}
+use Rattle.checker.specs.Answer.{checkedOf, table}
+use Rattle.checker.proofs.Callers.{rules-most, within}
 use Rattle.translator.specs.Accepted.{Accepted, Asked, OfQuestion}
 use Rattle.translator.specs.Answered.{answered, filled}
 use Rattle.translator.specs.declared.Own.{Own}

@@ -1,6 +1,5 @@
 -- Laws of the definitions: choices, reads past the end, and one level of evaluation.
 use mathlib.Core.Path.{_≡_, refl}
-use mathlib.Core.Bool.{Bool, true, false}
 use mathlib.Core.List.{List, [], _∷_}
 use Prim.Native.Nat.{ℕ, zero, suc, _+_, _-_, _*_, _<_, _≤_}
 use native.Mathlib.Numerals.{sub-one}
@@ -8,7 +7,6 @@ use native.Mathlib.Nat.{le-of-suc-le-suc, not-suc-le-zero}
 use native.Mathlib.Omega.{arith}
 use lib.ListN.{length, getD, drop}
 use borrow.Author.Tests.{lt-ltb, le-ltb}
-use Rattle.theory.specs.Syntax.{pick}
 use Rattle.theory.specs.Translation.{aux}
 use Rattle.words.specs.Terms.{arityOf, past}
 use Rattle.words.specs.declared.terms.Reach.{Reach}

@@ -2,7 +2,7 @@
 use mathlib.Core.Path.{_≡_, refl, sym, ap, subst, fun-ext, _∙_}
 use mathlib.Core.Bool.{Bool, true, false}
 use mathlib.Core.List.{List, [], _∷_, append-nil}
-use Prim.Native.Nat.{ℕ, zero, suc, _-_, _≤_}
+use Prim.Native.Nat.{ℕ, suc, _-_, _≤_}
 use native.Mathlib.Omega.{arith}
 use lib.Dec.{ltb}
 use lib.ListN.{getD, length}
@@ -13,7 +13,7 @@ use Rattle.theory.specs.Builtins.{function, builtinFuns, nthFun, funOf, program
 use Rattle.theory.specs.Cost.{evaluator}
 use Rattle.theory.specs.Words.{words, Shaped, storedRules}
 use Rattle.theory.specs.Translation.{aux, tree, ownRules, ownList, standing}
-use Rattle.theory.specs.Bytes.{Book, RuleAt, good, funsOf, readProgram, programOf, readQuestion}
+use Rattle.theory.specs.Bytes.{Book, good, funsOf, readProgram, programOf, readQuestion}
 use Rattle.theory.proofs.Shape.{parts-aux, tree-shaped}
 use Rattle.theory.proofs.Accepted.{read-on-bytes, length-funs}
 use Rattle.words.specs.Terms.{arityOf}

@@ -2,8 +2,8 @@
 use mathlib.Core.Path.{_≡_, refl, sym, ap, ap₂, subst, _∙_}
 use mathlib.Core.Bool.{Bool, true, false}
 use mathlib.Core.Option.{Option, some}
-use mathlib.Core.List.{List, [], _∷_, _++_}
-use Prim.Native.Nat.{ℕ, zero, suc, _+_, _-_, _*_, _≤_, _<_}
+use mathlib.Core.List.{List, _∷_, _++_}
+use Prim.Native.Nat.{ℕ, zero, suc, _+_, _-_, _≤_, _<_}
 use native.Mathlib.Numerals.{add-one}
 use native.Mathlib.Omega.{arith}
 use lib.ListN.{length, getD, take, drop, set, replicate, length-append, length-drop, length-set, length-replicate}
@@ -15,7 +15,7 @@ use Rattle.theory.proofs.Lists.{drop-next}
 use Rattle.words.specs.declared.terms.Reach.{Reach}
 use Rattle.words.specs.declared.terms.Reach.the-variants.{End}
 use Rattle.words.specs.Terms.{arityOf, past, skipAt, succsEnd}
-use Rattle.words.proofs.Skips.{never, skip-root, value-skips}
+use Rattle.words.proofs.Skips.{skip-root, value-skips}
 use Rattle.rules.specs.Matching.{fits}
 use Rattle.rules.specs.Finding.{fittingOf, ruleOf}
 use Rattle.rules.specs.declared.finding.Fitting.{Fitting}
@@ -88,14 +88,6 @@ module _ (rule : List ℕ) (a n : ℕ) (c : Calls rule a n) where
         (ap₂ {C = List ℕ} _∷_ (word (n + 3 + 2) (n + 5) (64 + (getD rule (n + 5) 0 - 64)) five-on x)
         (ap₂ {C = List ℕ} _∷_ (word (n + 3 + 3) (n + 6) (getD rule (n + 6) 0) six-on refl) (ap (λ (y : ℕ). take n (drop y rule)) behind ∙ r .all))))
 
--- ---- terms end among the same words wherever these are counted from
-past-from : (ar : ℕ → ℕ) (l : List ℕ) (n p i q : ℕ) → past ar l n p ≡ End q → (e : ℕ) × (past ar l n i ≡ End e)
-unfolding past
-past-from ar [] zero p i q h = (i, refl)
-past-from ar [] (suc n) p i q h = never q h
-past-from ar (w ∷ l) zero p i q h = (i, refl)
-past-from ar (w ∷ l) (suc n) p i q h = past-from ar l (ar w + n) (p + 1) (i + 1) q h
-
 -- ---- the rule is found at the place p of the term t, on the noted path
 module _ (ks standing own si oi t path : List ℕ) (room p m n : ℕ) (f : Fitting) (site : siteAt ks (fittingOf ks standing own si oi) t 0 ≡ At p f)
     (on : (getD path m 0 ≡ p) × OnPath ks t path m) (fits-room : length t ≤ room) (c : Calls (ruleOf standing own f) (getD t p 0) n) where
@@ -166,7 +158,7 @@ module _ (ks standing own si oi t path : List ℕ) (room p m n : ℕ) (f : Fitti
 
     first : N t ≡ some (take p t ++ 7 ∷ 9 ∷ under)
     first =
-        let v = value-skips ks t q e (getD t e 0) refl (value .inside) refl (value .base) in
+        let v = value-skips ks t q e (getD t e 0) refl (value .value .inside) refl (value .value .base) in
         next-ruled ks standing own si oi t p f site
         ∙ tested ks t p n (getD t p 0) within refl plain (c .few) fit rule long whole is-left (getD rule (n + 5) 0 - 64) b q (e + 1) (r .bound) (high-plain b (r .high))
         (testing-right rule (getD t p 0) n c (fitted .whole) ks r) there (v .0)
@@ -177,8 +169,7 @@ module _ (ks standing own si oi t path : List ℕ) (room p m n : ℕ) (f : Fitti
     unfolding skipAt
     term-left =
         let k = taken ks t p n (getD t p 0) within refl plain (c .few) fit in
-        let j = past-from (arityOf ks) (drop (p + 1) t) n (p + 1) 1 (k .0) (k .1 .0) in
-        (j .0, skip-root ks ws 0 (omega arith) ∙ ap (λ (i : ℕ). past (arityOf ks) (drop (p + 1) t) i 1) (r .parts) ∙ j .1)
+        (k .0, skip-root ks ws 0 (omega arith) ∙ ap (λ (i : ℕ). past (arityOf ks) (drop (p + 1) t) i 1) (r .parts) ∙ k .1)
 
     size : length (take p t) + (e - q + 3 + length ws) ≤ room
     size = omega (arith, front, within, length-drop (p + 1) t, value .count, value .fits)
@@ -197,7 +188,7 @@ module _ (ks standing own si oi t path : List ℕ) (room p m n : ℕ) (f : Fitti
             (
               first-size,
               subst (Leads N room (e - q + 2) (take p t ++ 7 ∷ 9 ∷ under)) end
-                  (value-passes ks standing own si oi usual (take p t) path m kept (on .0 ∙ sym front) room (e - q) (getD t e 0) ws (term-left .0) (value .base) (term-left .1) size),
+                  (value-passes ks standing own si oi usual (take p t) path m kept (on .0 ∙ sym front) room (e - q) (getD t e 0) ws (term-left .0) (value .value .base) (term-left .1) size),
             ),
           ),
         )

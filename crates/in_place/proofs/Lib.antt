@@ -1,6 +1,5 @@
--- What rules of variables in order make: Variables. The test of a value: Values. Both, as changes of one word: Changes. The first variables:
--- First. Steps in place, one after another: Passes.
-pub mod First
+-- What rules of variables in order make: Variables. The test of a value: Values. Both, as changes of one word: Changes. Steps in place, one
+-- after another: Passes.
 pub mod Variables
 pub mod Values
 pub mod Changes

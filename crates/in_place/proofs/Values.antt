@@ -18,15 +18,15 @@ use Rattle.words.proofs.Skips.{past-reach, past-later}
 use Rattle.words.proofs.Parts.{tail-part}
 use Rattle.rules.specs.Matching.{takes, reached, fits, binds}
 use Rattle.rules.specs.declared.matching.Bound.{Bound}
-use Rattle.rules.specs.Index.{spanOf}
-use Rattle.rules.specs.Usual.{Base, opening, Usual}
-use Rattle.rules.specs.Finding.{firstFit, moved, firstIn, firstAt, fittingOf, isFound}
+use Rattle.rules.specs.Usual.{Base, opening, Spans, Usual}
+use Rattle.rules.specs.Finding.{firstFit, moved, firstAt, fittingOf, isFound}
 use Rattle.rules.specs.declared.finding.Place.the-variants.{Stored}
 use Rattle.rules.specs.declared.finding.Fitting.{Fitting}
 use Rattle.rules.specs.declared.finding.Fitting.the-variants.{Standing, Nowhere}
 use Rattle.rules.proofs.Takes.{takes-var, takes-same, fits-end, fits-next, fits-other, binds-end, binds-var, binds-plain}
 use Rattle.rules.proofs.Walk.{at-found, at-next}
-use Rattle.rules.proofs.Placed.{first-none, found-in-standing, found-in-own}
+use Rattle.rules.proofs.Placed.{found-in-standing}
+use Rattle.rules.proofs.Roots.{searched, unruled, usual-begins}
 use Rattle.place.specs.Path.{below, hereAt, orHere, path, siteAt}
 use Rattle.place.specs.Noted.{OnPath}
 use Rattle.place.proofs.Path.{below-none, here-fits, here-not}
@@ -160,15 +160,14 @@ module _ (ks standing own si oi : List ℕ) (usual : Usual standing si oi) where
   find = fittingOf ks standing own si oi
 
   begins : standing ≡ opening ++ drop 50 standing
-  begins = sym (take-append-drop 50 standing) ∙ ap (λ (l : List ℕ). l ++ drop 50 standing) (usual .begins)
+  begins = usual-begins standing si oi usual
 
   -- in the part of the list where the rules of the root stand
-  finds : (a b : ℕ) (rules ss : List ℕ) (at n : ℕ) → (spanOf si (length standing) (getD ss 0 0) .from ≡ a) × (spanOf si (length standing) (getD ss 0 0) .to ≡ b)
+  finds : (a b : ℕ) (rules ss : List ℕ) (at n : ℕ) → Spans si (length standing) (getD ss 0 0) a b
       → take (b - a) (drop a standing) ≡ rules → firstFit ks rules ss ≡ Stored at n → find ss ≡ Standing (a + at) n
-  unfolding firstAt firstIn
   finds a b rules ss at n h e f =
       let place : firstAt ks standing si ss ≡ Stored (a + at) n =
-      ap₂ (λ (x y : ℕ). moved x (firstFit ks (take (y - x) (drop x standing)) ss)) (h .0) (h .1) ∙ ap (λ (l : List ℕ). moved a (firstFit ks l ss)) e ∙ ap (moved a) f in
+      searched ks standing si ss a b h ∙ ap (λ (l : List ℕ). moved a (firstFit ks l ss)) e ∙ ap (moved a) f in
       sym (found-in-standing ks standing own si oi ss refl place)
 
   abbrev guards : List ℕ
@@ -185,10 +184,7 @@ module _ (ks standing own si oi : List ℕ) (usual : Usual standing si oi) where
 
   -- tt has no rules
   finds-none : (ws : List ℕ) → find (5 ∷ ws) ≡ Nowhere
-  finds-none ws =
-      let a = first-none ks standing si (5 ∷ ws) {w = 5} refl (usual .no-standing) in
-      let b = first-none ks own oi (5 ∷ ws) {w = 5} refl (usual .no-own) in
-      sym (found-in-own ks standing own si oi (5 ∷ ws) a refl b refl)
+  finds-none ws = unruled ks standing own si oi 5 ws (usual .no-standing) (usual .no-own)
 
   module _ (ws : List ℕ) (e : ℕ) (h : past (arityOf ks) ws 1 0 ≡ End e) where
     finds-guard : find (7 ∷ 5 ∷ ws) ≡ Standing 0 6

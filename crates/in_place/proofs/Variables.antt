@@ -17,6 +17,8 @@ use Rattle.words.specs.declared.terms.Reach.{Reach}
 use Rattle.words.specs.declared.terms.Reach.the-variants.{End, Short}
 use Rattle.words.specs.Terms.{arityOf, past, skipAt}
 use Rattle.words.proofs.Skips.{past-none, past-reach, past-later, skip-reach, skip-then}
+use Rattle.words.specs.Same.{sameWords}
+use Rattle.words.proofs.Same.{same-true}
 use Rattle.words.proofs.Parts.{tail-part}
 use Rattle.rules.specs.Matching.{takes, reached, fits, binds}
 use Rattle.rules.specs.declared.matching.Bound.{Bound}
@@ -27,7 +29,21 @@ use Rattle.step.specs.Next.{left, right, endBy, ruled}
 use Rattle.in_place.specs.InPlace.{vars}
 use Rattle.step.proofs.Ruled.{past-var, past-plain, ruled-is}
 
--- ---- places and parts
+-- ---- the first of eight variables, with which those of a rule are compared
+-- the first n of m variables
+take-vars : (n m x : ℕ) → n ≤ m → take n (vars x m) ≡ vars x n
+take-vars zero m x h = refl
+take-vars (suc n) zero x h = absurd (omega (arith, h))
+take-vars (suc n) (suc m) x h = ap (λ (l : List ℕ). x ∷ l) (take-vars n m (suc x) (omega (arith, h)))
+
+-- the words from one place up to another are the first of eight variables
+pub first-vars : (ws : List ℕ) (at n : ℕ) → n ≤ 8 → sameWords (take (at + n - at) (drop at ws)) (take (n - 0) (vars 64 8)) ≡ true → take n (drop at ws) ≡ vars 64 n
+first-vars ws at n h e =
+    let there : n ≡ at + n - at = omega arith in
+    let here : n - 0 ≡ n = omega arith in
+    ap (λ (k : ℕ). take k (drop at ws)) there ∙ same-true _ _ e ∙ ap (λ (k : ℕ). take k (vars 64 8)) here ∙ take-vars n 8 64 h
+
+-- ---- parts
 parts-join : (a b c : ℕ) (l : List ℕ) → a ≤ b → b ≤ c → part a b l ++ part b c l ≡ part a c l
 parts-join a b c l h k =
     let z : a + (b - a) ≡ b = omega arith in
@@ -162,9 +178,9 @@ module _ (ks t : List ℕ) (p n a : ℕ) (within : p < length t) (root : getD t 
   inside : p + args .to ≤ length t
   inside = omega (arith, past-reach (arityOf ks) rest n (p + 1) (p + args .to) passes-there .1, length-drop (p + 1) t, within)
 
-  -- WHOLE ARGUMENTS stand behind the root
-  pub taken : (m : ℕ) × ((past (arityOf ks) (drop (p + 1) t) n (p + 1) ≡ End m) × (m ≤ length t))
-  taken = (p + args .to, (passes-there, inside))
+  -- WHOLE ARGUMENTS stand behind the root, from which their places are counted
+  pub taken : (m : ℕ) × (past (arityOf ks) (drop (p + 1) t) n 1 ≡ End m)
+  taken = (args .to, args .passes)
 
   -- a symbol on the same variables, and what is behind them: the symbol for the root
   new-root : (c : ℕ) → isVar c ≡ false → news (c ∷ vars 64 n) ++ drop (p + args .to) t ≡ c ∷ rest

@@ -6,7 +6,7 @@ use mathlib.Core.Option.{Option, some}
 use mathlib.Core.List.{List, [], _∷_}
 use lib.ListN.{length, getD, take, drop, set}
 use Rattle.words.specs.Terms.{arityOf, succsEnd}
-use Rattle.rules.specs.Usual.{Base}
+use Rattle.rules.specs.Usual.{Valued}
 use Rattle.rules.specs.declared.finding.Fitting.{Fitting}
 use Rattle.place.specs.declared.Site.{Site}
 use Rattle.place.specs.declared.Site.the-variants.{Nothing, At}
@@ -67,7 +67,6 @@ pub record Tests (ks rule : List ℕ) (n : ℕ) : Type 0 where
 
 -- at the place q of the term t stands a value, whose test has so many steps, and as many words more fit the room
 pub record Passes (t : List ℕ) (q room steps : ℕ) : Type 0 where
-  pub inside : succsEnd (drop q t) q < length t
-  pub base : Base (getD t (succsEnd (drop q t) q) 0)
+  pub value : Valued t q
   pub count : steps ≡ succsEnd (drop q t) q - q + 3
   pub fits : length t + steps ≤ room

@@ -1,15 +1,14 @@
 -- A program or a question that the checker accepts, with the arrays that it answers, is what the translator asks for.
 use mathlib.Core.Path.{_≡_, sym, ap, ap₂, _∙_, subst}
 use mathlib.Core.List.{List}
-use Prim.Native.Nat.{ℕ, zero, suc, _+_, _≤_, _<_}
+use Prim.Native.Nat.{ℕ}
 use lib.ListN.{take, drop}
 use Rattle.checker.proofs.Table.{table-agrees, openings-used}
-use Rattle.theory.specs.Builtins.{builtinFuns, nthFun}
-use Rattle.theory.specs.Bytes.{good, Declared, Book, nthArity, RuleAt, ruleCount, openedAt, readProgram, readQuestion, Agrees}
+use Rattle.theory.specs.Bytes.{Declared, readProgram, readQuestion, Agrees}
 use Rattle.checker.specs.declared.Checked.{Checked}
 use Rattle.checker.specs.declared.Verdict.{Verdict}
-use Rattle.checker.specs.Answer.{padded, table, checkedOf, declared, verdictOf}
-use Rattle.checker.proofs.Callers.{program-read, functions-most, rules-most, arities-lent, question-read}
+use Rattle.checker.specs.Answer.{table, checkedOf, declared, verdictOf}
+use Rattle.checker.proofs.Callers.{program-read, rules-most, arities-lent, question-read}
 use Rattle.translator.specs.Accepted.{Accepted, Asked}
 
 pub given : (program : List ℕ) (c : Checked) → c ≡ checkedOf (readProgram program) → c .number ≡ 0 → (used : List ℕ) → used ≡ take (c .rules) (c .openings)

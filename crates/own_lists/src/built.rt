@@ -97,7 +97,7 @@ fn right_of(i: u8) -> u8 {
 }
 
 // The program from the start of dst; how many bytes it is.
-pub fn largest_program(dst: &mut [u8]) -> usize {
+pub(crate) fn largest_program(dst: &mut [u8]) -> usize {
     let exceptions = put_exceptions(dst, 0);
     let functions = put_functions(dst, exceptions);
     let rules = put_rules(dst, functions);

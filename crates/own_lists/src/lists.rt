@@ -1,5 +1,7 @@
 // A program's own list by way of the checker.
 use translator::Own;
+ghost use mathlib.Core.Path.{_≡_};
+ghost use Rattle.own_lists.specs.Lists.{listLength, listAnswer, listWritten};
 
 // The answer: the program is refused; the slice is shorter than the list; so many words are written.
 pub enum Answer {
@@ -9,7 +11,10 @@ pub enum Answer {
 }
 
 // The own list, into dst where it fits.
-pub fn write_list(program: &[u8], dst: &mut [u16]) -> Answer {
+pub(crate) fn write_list(program: &[u8], dst: &mut [u16]) -> Answer
+    ensures { λ r. ⌜ r ≡ listAnswer (now (program .entry)) (now (dst .entry)) ⌝ }
+    ensures { λ _. ⌜ now (dst .exit) ≡ listWritten (now (program .entry)) (now (dst .entry)) ⌝ }
+{
     let c = checker::check_program(program);
     if c.number != 0 {
         return Answer::Refused;
@@ -25,7 +30,9 @@ pub fn write_list(program: &[u8], dst: &mut [u16]) -> Answer {
 }
 
 // How many words it is; none for a program that is refused.
-pub fn list_length(program: &[u8]) -> usize {
+pub(crate) fn list_length(program: &[u8]) -> usize
+    ensures { λ r. ⌜ r ≡ listLength (now (program .entry)) ⌝ }
+{
     let c = checker::check_program(program);
     if c.number != 0 {
         return 0;
@@ -38,7 +45,7 @@ pub fn list_length(program: &[u8]) -> usize {
 }
 
 // The words of a question to the program, into dst; how many they are, and 0 where either is refused or dst is too short.
-pub fn write_question(program: &[u8], question: &[u8], dst: &mut [u16]) -> usize {
+pub(crate) fn write_question(program: &[u8], question: &[u8], dst: &mut [u16]) -> usize {
     let c = checker::check_program(program);
     if c.number != 0 {
         return 0;

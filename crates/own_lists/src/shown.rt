@@ -1,13 +1,17 @@
 // Lists and answers on standard output.
 use super::lists::Answer;
-ghost use Prim.Native.Nat.{_<_, _≤_};
+ghost use mathlib.Core.Path.{_≡_};
+ghost use Prim.Native.Nat.{_<_};
+ghost use lib.Dec.{eqb};
 ghost use lib.ListN.{length};
+ghost use Rattle.theory.specs.Syntax.{pick};
+ghost use Rattle.own_lists.specs.Shown.{unchangedIn, mixedOf, sumFrom};
 
-pub fn show_number(n: usize) {
+pub(crate) fn show_number(n: usize) {
     io::print_decimal(1, n as u64);
 }
 
-pub fn show_answer(answer: Answer) {
+pub(crate) fn show_answer(answer: Answer) {
     match answer {
         Answer::Refused => {
             io::write_all(1, b"refused");
@@ -24,6 +28,7 @@ pub fn show_answer(answer: Answer) {
 
 fn wide(w: u16) -> usize
     ensures { λ r. ⌜ r < 65536 ⌝ }
+    ensures { λ r. ⌜ r ≡ w ⌝ }
 {
     w as usize
 }
@@ -60,7 +65,7 @@ fn left_at(own: &[u16], i: usize, left: usize) -> usize
 }
 
 // A rule to a line.
-pub fn show_rules(own: &[u16]) {
+pub(crate) fn show_rules(own: &[u16]) {
     let mut i = 0;
     let mut left = 0;
     while i < own.len() {
@@ -73,7 +78,7 @@ pub fn show_rules(own: &[u16]) {
 }
 
 // Words to a line.
-pub fn show_words(ws: &[u16]) {
+pub(crate) fn show_words(ws: &[u16]) {
     let mut i = 0;
     while i < ws.len() {
         show_number(wide(ws[i]));
@@ -83,7 +88,9 @@ pub fn show_words(ws: &[u16]) {
 }
 
 // How many words are as they were before.
-pub fn unchanged(own: &[u16]) -> usize {
+pub(crate) fn unchanged(own: &[u16]) -> usize
+    ensures { λ r. ⌜ r ≡ unchangedIn (now (own .entry)) ⌝ }
+{
     let mut count = 0;
     let mut i = 0;
     while i < own.len() {
@@ -94,7 +101,7 @@ pub fn unchanged(own: &[u16]) -> usize {
 }
 
 fn same(w: u16) -> usize
-    ensures { λ r. ⌜ r ≤ 1 ⌝ }
+    ensures { λ r. ⌜ r ≡ pick (eqb w 65535) 1 0 ⌝ }
 {
     if w == 65535 {
         return 1;
@@ -103,7 +110,9 @@ fn same(w: u16) -> usize
 }
 
 // One number by which lists that differ are told apart.
-pub fn sum_of(own: &[u16]) -> usize {
+pub(crate) fn sum_of(own: &[u16]) -> usize
+    ensures { λ r. ⌜ r ≡ sumFrom 0 (now (own .entry)) ⌝ }
+{
     let mut sum = 0;
     let mut i = 0;
     while i < own.len() {
@@ -113,6 +122,8 @@ pub fn sum_of(own: &[u16]) -> usize {
     sum
 }
 
-fn mixed(sum: usize, w: usize) -> usize {
+fn mixed(sum: usize, w: usize) -> usize
+    ensures { λ r. ⌜ r ≡ mixedOf sum w ⌝ }
+{
     (sum % 1000003 * 31 + w % 65536) % 1000003
 }

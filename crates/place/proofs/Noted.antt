@@ -1,5 +1,5 @@
 -- The laws of the noted path: the search goes on from a place of it, and a step leaves it as it is up to the rewritten place.
-use mathlib.Core.Path.{_≡_, refl, sym, ap, ap₂, subst, _∙_}
+use mathlib.Core.Path.{_≡_, refl, sym, ap, subst, _∙_}
 use mathlib.Core.Bool.{Bool, true, false}
 use mathlib.Core.List.{List, [], _∷_}
 use mathlib.Core.Logic.{_≢_}
@@ -164,7 +164,7 @@ module _ (ks : List ℕ) (find : List ℕ → Fitting) (ws : List ℕ) where
           site-up (i - 1) (omega arith) (ap (λ (j : ℕ). siteAt ks find ws (getD path j 0)) e ∙ nothing t)
 
 -- ---- a step leaves the path up to the rewritten place
-pub drop-take : (a q : ℕ) (l : List ℕ) → drop a (take q l) ≡ take (q - a) (drop a l)
+drop-take : (a q : ℕ) (l : List ℕ) → drop a (take q l) ≡ take (q - a) (drop a l)
 drop-take zero q l = ap (λ (k : ℕ). take k l) (sym (sub-zero q))
 drop-take (suc a) q [] = ap (drop (suc a)) (take-nil q) ∙ sym (take-nil (q - suc a))
 drop-take (suc a) zero (w ∷ l) = sym (ap (λ (k : ℕ). take k (drop a l)) (zero-sub (suc a)))

@@ -13,19 +13,20 @@ use Rattle.words.specs.declared.terms.Reach.the-variants.{End}
 use Rattle.words.specs.Terms.{arityOf, succsEnd}
 use Rattle.words.proofs.Skips.{past-none, succs-from, succs-run}
 use Rattle.rules.specs.Matching.{reached}
-use Rattle.rules.specs.Finding.{firstFit, moved, firstIn, firstAt, fittingOf}
-use Rattle.rules.specs.Usual.{Base, opening, Usual}
+use Rattle.rules.specs.Finding.{firstFit, moved, firstAt, fittingOf}
+use Rattle.rules.specs.Usual.{Base, Valued, opening, Usual}
 use Rattle.rules.specs.declared.finding.Place.the-variants.{Nowhere as NoPlace}
 use Rattle.rules.specs.declared.finding.Fitting.{Fitting}
 use Rattle.rules.specs.declared.finding.Fitting.the-variants.{Nowhere}
 use Rattle.rules.proofs.Takes.{fits-other}
 use Rattle.rules.proofs.Walk.{at-next, at-end}
 use Rattle.rules.proofs.Placed.{first-none, found-in-own}
+use Rattle.rules.proofs.Roots.{searched, unruled, usual-begins}
 use Rattle.place.specs.Path.{below, hereAt, hereIn, orHere, path, siteAt}
 use Rattle.place.specs.declared.Site.{Site}
 use Rattle.place.specs.declared.Site.the-variants.{Nothing}
 use Rattle.place.proofs.Path.{below-none, below-past, here-not}
-use Rattle.place.proofs.Noted.{drop-take, here-inside}
+use Rattle.place.proofs.Noted.{here-inside}
 
 -- no part of 0, True or False may be rewritten
 base-inactive : (c : ℕ) → Base c → active c < 1
@@ -56,24 +57,20 @@ module _ (ks standing own si oi : List ℕ) (usual : Usual standing si oi) where
 
   -- 0, True and False have no rules
   base-unruled : (c : ℕ) (ws : List ℕ) → Base c → find (c ∷ ws) ≡ Nowhere
-  base-unruled c ws b =
-      let s = first-none ks standing si (c ∷ ws) {w = c} refl (usual .base-standing c b) in
-      let o = first-none ks own oi (c ∷ ws) {w = c} refl (usual .base-own c b) in
-      sym (found-in-own ks standing own si oi (c ∷ ws) s refl o refl)
+  base-unruled c ws b = unruled ks standing own si oi c ws (usual .base-standing c b) (usual .base-own c b)
 
   -- and the one rule of succ is succ(fire(x)) -> fire(x)
   abbrev rule : List ℕ
   rule = drop 43 opening
 
   rule-there : take 7 (drop 43 standing) ≡ rule
-  rule-there = sym (drop-take 43 50 standing) ∙ ap (drop 43) (usual .begins)
+  rule-there = ap (λ (l : List ℕ). take 7 (drop 43 l)) (usual-begins standing si oi usual)
 
   succ-unruled : (w : ℕ) (ws : List ℕ) → 6 ≢ w → find (2 ∷ w ∷ ws) ≡ Nowhere
-  unfolding firstAt firstIn
   succ-unruled w ws n =
       let ss : List ℕ = 2 ∷ w ∷ ws in
       let s : firstAt ks standing si ss ≡ NoPlace =
-      ap₂ (λ (x y : ℕ). moved x (firstFit ks (take (y - x) (drop x standing)) ss)) (usual .succs .0) (usual .succs .1) ∙ ap (λ (l : List ℕ). moved 43 (firstFit ks l ss)) rule-there
+      searched ks standing si ss 43 50 (usual .succs) ∙ ap (λ (l : List ℕ). moved 43 (firstFit ks l ss)) rule-there
       ∙ ap (moved 43) (at-next ks ss rule 0 3 2 (omega arith) refl refl (omega arith) (fits-other ks 2 w 6 ws (64 ∷ []) refl refl n) ∙ at-end ks ss rule 7 (omega arith)) in
       let o = first-none ks own oi ss {w = 2} refl (usual .succ-own) in
       sym (found-in-own ks standing own si oi ss (sym s) refl o refl)
@@ -100,9 +97,10 @@ module _ (ks standing own si oi : List ℕ) (usual : Usual standing si oi) where
       ∙ ap (λ (s : Site). orHere s Nothing) (nothing-through k c ws (at + 1) b)
 
   -- A VALUE IS QUIET: nothing is rewritten at its place or below
-  pub value-quiet : (ws : List ℕ) (at : ℕ) → succsEnd (drop at ws) at < length ws → Base (getD ws (succsEnd (drop at ws) at) 0)
-      → (siteAt ks find ws at ≡ Nothing) × (hereIn find ws at ≡ Nothing)
-  value-quiet ws at h b =
+  pub value-quiet : (ws : List ℕ) (at : ℕ) → Valued ws at → (siteAt ks find ws at ≡ Nothing) × (hereIn find ws at ≡ Nothing)
+  value-quiet ws at v =
+      let h = v .inside in
+      let b = v .base in
       let q : ℕ = succsEnd (drop at ws) at in
       let shape = succs-then ws at q refl h in
       let inside : at < length ws = omega (arith, succs-from ws at q refl, h) in

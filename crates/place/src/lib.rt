@@ -9,11 +9,10 @@ use words::terms::skip_many;
 ghost use mathlib.Core.Path.{_≡_};
 ghost use mathlib.Core.Bool.{true};
 ghost use Prim.Native.Nat.{_<_};
-ghost use lib.ListN.{length, getD, drop};
+ghost use lib.ListN.{length, getD};
 ghost use Rattle.theory.specs.Tree.{active};
-ghost use Rattle.words.specs.Terms.{succsEnd};
 ghost use Rattle.rules.specs.Finding.{isFound, fittingOf, Handed};
-ghost use Rattle.rules.specs.Usual.{Base, Usual};
+ghost use Rattle.rules.specs.Usual.{Valued, Usual};
 ghost use Rattle.place.specs.Path.{RuleWithin, belowAt, hereIn, isAt, siteAt};
 ghost use Rattle.place.specs.Noted.{OnPath, Numbered};
 
@@ -113,7 +112,7 @@ fn is_at(site: Site) -> bool
 // Whether the search stops at the place: a value stands there, and nothing fits in a value where the lists are usual. A run of succs is
 // looked through once, at its first: only that place is `fresh`.
 fn stops(usual: bool, fresh: bool, term: &[u16], at: usize) -> bool
-    ensures { λ r. ⌜ (r ≡ true → (usual ≡ true) × ((succsEnd (drop at (now (term .entry))) at < length (now (term .entry))) × Base (getD (now (term .entry)) (succsEnd (drop at (now (term .entry))) at) 0))) ⌝ }
+    ensures { λ r. ⌜ (r ≡ true → (usual ≡ true) × Valued (now (term .entry)) at) ⌝ }
 {
     if !usual {
         return false;

@@ -9,7 +9,7 @@ use mathlib.Core.List.{List, []}
 use Prim.Native.Nat.{ℕ}
 use lib.ListN.{getD}
 use Rattle.rules.proofs.Standing.{standing-same}
-use Rattle.theory.specs.Syntax.{Fun, Term}
+use Rattle.theory.specs.Syntax.{Term}
 use Rattle.theory.specs.Builtins.{funOf}
 use Rattle.theory.specs.Buffers.{over, padded}
 use Rattle.theory.specs.Words.{words, storedRules}

@@ -8,6 +8,7 @@ use native.Mathlib.Omega.{arith}
 use lib.Dec.{T, leb, leb→le}
 use lib.ListN.{length, getD, take, drop}
 use lib.Seq.{length-take-le, take-take, drop-drop}
+use Rattle.theory.proofs.Lists.{past-it}
 use Rattle.rules.specs.Matching.{fits}
 use Rattle.rules.specs.Index.{spanOf, partIn}
 use Rattle.rules.specs.Finding.{choose, firstFrom, firstFit, moved, firstIn, firstAt, standingFirst, fittingOf, isFound, ruleOf}
@@ -15,7 +16,6 @@ use Rattle.rules.specs.declared.index.Span.{Span}
 use Rattle.rules.specs.declared.finding.Place.{Place}
 use Rattle.rules.specs.declared.finding.Place.the-variants.{Nowhere, Stored}
 use Rattle.rules.specs.declared.finding.Fitting.{Fitting}
-use Rattle.rules.specs.declared.finding.Fitting.the-variants.{Standing, Own, Nowhere as NoRule}
 use Rattle.rules.proofs.Pass.{span-inside}
 use Rattle.rules.proofs.Placed.{part-within}
 
@@ -26,7 +26,7 @@ pub record Fitted (ks rule ss : List ℕ) : Type 0 where
 
 -- one word on
 one-on : (list : List ℕ) (at w : ℕ) (ws : List ℕ) → drop at list ≡ w ∷ ws → drop (suc at) list ≡ ws
-one-on list at w ws e = ap (λ (k : ℕ). drop k list) (sym (add-one at)) ∙ sym (drop-drop 1 at list) ∙ ap (drop 1) e
+one-on list at w ws e = ap (λ (k : ℕ). drop k list) (sym (add-one at)) ∙ past-it list (w ∷ []) ws at e
 
 -- a part of a list's front is a part of the list
 part-of-front : (n at k : ℕ) (l : List ℕ) → at + n ≤ k → take n (drop at (take k l)) ≡ take n (drop at l)

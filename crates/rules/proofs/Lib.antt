@@ -1,10 +1,11 @@
--- Steps of the code's loops and calls: Takes, Walk, Pass, Placed, Handed. What is found, over any words: Fitted. Laws over trees and programs: the others.
+-- Steps of the code's loops and calls: Takes, Walk, Pass, Placed, Handed. What is found, over any words: Fitted, Roots. Laws over trees and programs: the others.
 pub mod Takes
 pub mod Walk
 pub mod Pass
 pub mod Placed
 pub mod Handed
 pub mod Fitted
+pub mod Roots
 pub mod Stored
 pub mod Scan
 pub mod Indexed

@@ -1,16 +1,22 @@
 -- The usual lists, by which it is known beforehand where the test of a value leads, and that no rule fits in a value.
-use Prim.Native.Nat.{ℕ, _+_, _*_}
+use Prim.Native.Nat.{ℕ, _+_, _*_, _<_}
 use mathlib.Core.Path.{_≡_}
 use mathlib.Core.Logic.{_⊎_}
 use mathlib.Core.Bool.{false}
 use mathlib.Core.List.{List, [], _∷_}
 use lib.Dec.{ltb}
-use lib.ListN.{length, getD, take}
+use lib.ListN.{length, getD, take, drop}
+use Rattle.words.specs.Terms.{succsEnd}
 use Rattle.rules.specs.Index.{slotOf, spanOf}
 
 -- 0, True and False
 abbrev pub Base : ℕ → Type 0
 Base c = (c ≡ 1) ⊎ ((c ≡ 3) ⊎ (c ≡ 4))
+
+-- at the place q of the words t stands a value: so many succs, and then one of these
+pub record Valued (t : List ℕ) (q : ℕ) : Type 0 where
+  pub inside : succsEnd (drop q t) q < length t
+  pub base : Base (getD t (succsEnd (drop q t) q) 0)
 
 -- the rules of guard, of isData and of succ, with which the usual standing list begins
 abbrev pub opening : List ℕ

@@ -4,7 +4,7 @@ use mathlib.Core.Bool.{Bool, true, false, not}
 use mathlib.Core.Option.{Option, none, some}
 use mathlib.Core.List.{List, []}
 use Prim.Native.Nat.{ℕ, zero, suc, _+_, _-_, _≤_, _<_}
-use native.Mathlib.Nat.{zero-add, add-zero, suc-add, sub-zero}
+use native.Mathlib.Nat.{add-zero, sub-zero}
 use native.Mathlib.Omega.{arith}
 use lib.Dec.{leb}
 use lib.ListN.{length, take, drop, replicate, length-append, length-replicate}
@@ -21,7 +21,6 @@ use Rattle.turns.specs.declared.run.Ending.{Ending}
 use Rattle.turns.specs.declared.run.Ending.the-variants.{Done, Out, Big}
 use Rattle.turns.specs.declared.run.Driven.{Driven}
 use Rattle.turns.specs.declared.run.Ran.{Ran}
-use Rattle.turns.specs.declared.run.Move.{Move}
 use Rattle.turns.specs.declared.run.Move.the-variants.{Stop, Go}
 use Rattle.rules.specs.declared.finding.Fitting.{Fitting}
 use Rattle.place.specs.Noted.{OnPath}

@@ -52,8 +52,7 @@ returns-4 c =
     let base = tested .is-base .ensures (not-false _ (c .before .if2 .left)) in
     let passes : Passes (a .term .now) (a .q) (a .room) _ =
     record {
-      inside = omega (arith, is, first .if1 .left);
-      base = subst (λ (e : ℕ). Base (getD (a .term .now) e 0)) is base;
+      value = record { inside = omega (arith, is, first .if1 .left); base = subst (λ (e : ℕ). Base (getD (a .term .now) e 0)) is base };
       count = ap (λ (e : ℕ). e - a .q + 3) is;
       fits = omega (arith, fits, start .pre);
     } in

@@ -38,7 +38,7 @@ returns-4 c e =
     let first = end .before .before in
     let is = end .root-of .ensures in
     let a = first .before .before .args in
-    (not-false _ (first .if1 .left), (omega (arith, is, inside .if3 .left), subst (λ (q : ℕ). Base (getD (a .term .now) q 0)) is (c .is-base .ensures e)))
+    (not-false _ (first .if1 .left), record { inside = omega (arith, is, inside .if3 .left); base = subst (λ (q : ℕ). Base (getD (a .term .now) q 0)) is (c .is-base .ensures e) })
 
 pub stops-spec : {M : Type 1} → statement M
 stops-spec =

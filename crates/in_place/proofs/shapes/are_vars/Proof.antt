@@ -1,6 +1,6 @@
 -- `shapes::are_vars` meets its contract.
 use mathlib.Core.Path.{sym, _∙_}
-use Rattle.in_place.proofs.First.{first-vars}
+use Rattle.in_place.proofs.Variables.{first-vars}
 use borrow.Author.Needs.{needs}
 use Rattle.in_place.proofs.shapes.are_vars.Statement.{statement}
 use Rattle.in_place.proofs.shapes.are_vars.Tie as tie

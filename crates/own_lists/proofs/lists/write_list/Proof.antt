@@ -1,4 +1,4 @@
--- `lists::write_list` is safe and ends: an accepted program is what the translator asks for.
+-- `lists::write_list` meets its contract: an accepted program is what the translator asks for.
 use mathlib.Core.Path.{_≡_, ap}
 use Prim.Native.Nat.{ℕ, _-_}
 use native.Mathlib.Omega.{arith}
@@ -6,6 +6,7 @@ use lib.ListN.{take}
 use borrow.Author.Needs.{needs}
 use Rattle.checker.proofs.Callers.{within}
 use Rattle.own_lists.proofs.Given.{given}
+use Rattle.own_lists.proofs.Answers.{answer-refused, written-refused, answer-count, answer-short, written-read}
 use Rattle.own_lists.proofs.lists.write_list.Statement.{statement}
 use Rattle.own_lists.proofs.lists.write_list.Tie as tie
 
@@ -13,7 +14,12 @@ check-program-requires : tie.Need-check-program-requires
 check-program-requires c κs = search needs
 
 returns : tie.Need-returns
-returns c = search needs
+returns c =
+    let k = c .before .before in
+    let d = c .before .before .before .before .before .args .dst .now in (
+      answer-refused _ (k .check-program .result) (k .check-program .ensures) (c .if1 .taken) d,
+      written-refused _ (k .check-program .result) (k .check-program .ensures) (c .if1 .taken) d,
+    )
 
 sub-used : tie.Need-sub-used
 sub-used c = search needs
@@ -47,13 +53,29 @@ same-length : tie.Need-same-length
 same-length c = search needs
 
 returns-2 : tie.Need-returns-2
-returns-2 c = search needs
+returns-2 c =
+    let k = c .before .before .before .before .before .before .before .before .before .before .before .before .before .before in
+    let h = c .before .before .before .before .before .before .before .before .before .before .before .before .if1 .left in
+    let e = c .before .before .before .before .before .own-list .ensures in
+    let d = c .before .before .before .before .before .before .before .before .before .before .before .before .before .before .before .before .before .args .dst .now in
+    let none : k .check-program .result .number ≡ 0 = omega (arith, h) in (
+      answer-count _ (k .check-program .result) (k .check-program .ensures) none d _ (e .0) _ (c .before .n .given .1),
+      written-read _ (k .check-program .result) (k .check-program .ensures) none d _ (e .1),
+    )
 
 same-length-2 : tie.Need-same-length-2
 same-length-2 c = search needs
 
 returns-3 : tie.Need-returns-3
-returns-3 c = search needs
+returns-3 c =
+    let k = c .before .before .before .before .before .before .before .before .before .before .before .before .before in
+    let h = c .before .before .before .before .before .before .before .before .before .before .before .if1 .left in
+    let e = c .before .before .before .before .own-list .ensures in
+    let d = c .before .before .before .before .before .before .before .before .before .before .before .before .before .before .before .before .args .dst .now in
+    let none : k .check-program .result .number ≡ 0 = omega (arith, h) in (
+      answer-short _ (k .check-program .result) (k .check-program .ensures) none d _ (e .0) (c .enum-told .given .1),
+      written-read _ (k .check-program .result) (k .check-program .ensures) none d _ (e .1),
+    )
 
 pub write-list-spec : {M : Type 1} → statement M
 write-list-spec =
