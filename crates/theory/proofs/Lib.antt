@@ -12,6 +12,7 @@ pub mod Reach
 pub mod Roots
 pub mod RootsHold
 pub mod OverlapMeaning
+pub mod Table
 pub mod Separate
 -- the paper's own definitions
 pub mod PaperEvaluation
@@ -32,11 +33,15 @@ pub mod EnoughFuel
 pub mod AcceptedExactly
 pub mod RefusalTen
 pub mod AcceptedProper
--- the public calls
-pub mod PublicCalls
-pub mod Demand2
-pub mod Sums
-pub mod Examples
 -- how large things get
 pub mod Bounds
 pub mod Exceptions
+-- the public calls, from bytes
+pub mod PublicCalls
+pub mod AnsweredExactly
+pub mod Refusals
+pub mod Demand2
+pub mod CountedSteps
+pub mod ReadOff
+pub mod Sums
+pub mod Examples

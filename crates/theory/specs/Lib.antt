@@ -15,6 +15,7 @@ pub mod Tree
 pub mod Words
 pub mod Rewriting
 pub mod Turns
+pub mod Which
 -- 4. The translation (004, definition 4.1)
 pub mod Translation
 pub mod Definition41
@@ -23,4 +24,5 @@ pub mod Bytes
 pub mod Encoding
 pub mod Buffers
 pub mod Answers
+pub mod Demands
 pub mod Sums
