@@ -1,7 +1,7 @@
 -- The rewriter's answer as a report is the theory's answer as a report, and its numbers fit a report's words.
-use Prim.Native.Nat.{ℕ, zero, suc, _≤_, _<_}
+use Prim.Native.Nat.{ℕ, zero, suc, _-_, _≤_, _<_}
 use mathlib.Core.Path.{_≡_, refl, sym, ap, ap₂, _∙_, subst}
-use mathlib.Core.Bool.{Bool, true, false}
+use mathlib.Core.Bool.{Bool, true, false, _&&_}
 use mathlib.Core.List.{List}
 use mathlib.Core.Option.{Option, none, some}
 use native.Mathlib.Omega.{arith}
@@ -10,7 +10,7 @@ use Rattle.theory.specs.Syntax.{zeroB, trueB, falseB, Val, base, up, height, Te
 use Rattle.theory.specs.Endings.{Ending, value, raised, stuck, tooDeep, Said, is, outOfSteps, tooBig, Answer, says}
 use Rattle.theory.specs.Tree.{Tree, Trees, var, node, [·], _▹_, firstFit, step, size}
 use Rattle.theory.specs.Translation.{tree, rules}
-use Rattle.theory.specs.Turns.{underSucc, exceptionOf, endingAtRoot, readOff, readOffPart, turn, oneMore, runInRoom, rewriter}
+use Rattle.theory.specs.Turns.{underSucc, readOffFire, endingAtRoot, readOff, readOffPart, turn, oneMore, runInRoom, rewriter}
 use Rattle.theory.specs.Buffers.{over, padded}
 use Rattle.theory.specs.Bytes.{good, Book, programOf, readProgram}
 use Rattle.theory.specs.Answers.{lastWords}
@@ -50,15 +50,20 @@ under-not-deep (raised e) h = tt
 under-not-deep (stuck s) h = tt
 under-not-deep tooDeep h = h
 
-root-not-deep : (s : ℕ) (m : Ending) (e : ℕ) → NotDeep m → NotDeep (endingAtRoot s m e)
-root-not-deep s m e h =
+fire-not-deep : (ts : Trees) → NotDeep (readOffFire ts)
+fire-not-deep [·] = tt
+fire-not-deep (var x ▹ ts) = tt
+fire-not-deep (node s us ▹ ts) = pick-not-deep (leb 32 s && leb s 47) (raised (s - 32)) (stuck 0) tt tt
+
+root-not-deep : (s : ℕ) (m e : Ending) → NotDeep m → NotDeep e → NotDeep (endingAtRoot s m e)
+root-not-deep s m e h k =
     pick-not-deep (eqb s 1) _ _ tt (pick-not-deep (eqb s 3) _ _ tt (pick-not-deep (eqb s 4) _ _ tt
-    (pick-not-deep (eqb s 2) _ _ (under-not-deep m h) (pick-not-deep (eqb s 6) (raised e) (stuck 0) tt tt))))
+    (pick-not-deep (eqb s 2) _ _ (under-not-deep m h) (pick-not-deep (eqb s 6) e (stuck 0) k tt))))
 
 mutual
   read-not-deep : (t : Tree) → NotDeep (readOff t)
   read-not-deep (var x) = tt
-  read-not-deep (node s ts) = root-not-deep s (readOffPart ts) (exceptionOf ts) (part-not-deep ts)
+  read-not-deep (node s ts) = root-not-deep s (readOffPart ts) (readOffFire ts) (part-not-deep ts) (fire-not-deep ts)
 
   part-not-deep : (ts : Trees) → NotDeep (readOffPart ts)
   part-not-deep [·] = tt

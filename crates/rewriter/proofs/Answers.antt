@@ -1,7 +1,7 @@
--- The answer of a run on words is the theory's. In each term of the run no variable stands behind fire (`Fires`).
+-- The answer of a run on words is the theory's.
 use mathlib.Core.Path.{_≡_, refl, sym, ap, ap₂, subst, _∙_}
 use mathlib.Core.Logic.{_≢_}
-use mathlib.Core.Bool.{Bool, true, false}
+use mathlib.Core.Bool.{Bool, true, false, _&&_}
 use mathlib.Core.Option.{Option, none, some}
 use mathlib.Core.List.{List, [], _∷_, _++_, append-assoc, append-nil}
 use Prim.Native.Nat.{ℕ, zero, suc, _+_, _-_}
@@ -14,21 +14,20 @@ use Rattle.theory.specs.Syntax.{pick, choose, base, height, zeroB, trueB, false
 use Rattle.theory.specs.Endings.{Ending, value, raised, stuck, tooDeep, Said, is, outOfSteps, tooBig, Answer, says}
 use Rattle.theory.specs.Tree.{Tree, Trees, var, node, [·], _▹_, Rule, firstFit, step, size, len}
 use Rattle.theory.specs.Words.{words, allWords, Shaped, Shapeds}
-use Rattle.theory.specs.Turns.{underSucc, exceptionOf, endingAtRoot, readOff, readOffPart, turn, oneMore, runInRoom, lastAtTurn, lastTerm}
-use Rattle.theory.proofs.Tests.{eqb-true, eqb-false, eq-of-eqb, ne-of-eqb}
+use Rattle.theory.specs.Turns.{underSucc, readOffFire, endingAtRoot, readOff, readOffPart, turn, oneMore, runInRoom, lastAtTurn, lastTerm}
+use Rattle.theory.proofs.Tests.{eqb-true, eqb-false, leb-true, leb-false, eq-of-eqb, ne-of-eqb}
 use Rattle.theory.specs.Proper.{ProperRules}
-use Rattle.theory.proofs.Exceptions.{Fires, FiresO, fires-part, no-variable-fired}
 use Rattle.theory.proofs.Readability.{length-words}
 use Rattle.theory.proofs.Shape.{ShapedRules, ShapedO}
 use Rattle.words.specs.Terms.{arityOf}
 use Rattle.step.specs.Next.{nextW}
 use Rattle.turns.specs.Run.{Last, run, runFrom}
 use Rattle.turns.specs.declared.run.Ending.the-variants.{Big as big-ending}
-use Rattle.rewriter.specs.Read.{exnW, firedW, rootW, readW, saidW, answerW}
+use Rattle.rewriter.specs.Read.{fireW, firedW, rootW, readW, saidW, answerW}
 use Rattle.rewriter.specs.Meaning.{constOf, endOf, saidOf, answerOf}
 use Rattle.rewriter.specs.declared.ending.Said.{Said as CodeSaid}
 use Rattle.rewriter.specs.declared.ending.Said.the-variants.{Value, Raised, Stuck}
-use Rattle.rewriter.proofs.Endings.{exn-word, root-1, root-3, root-4, root-6, root-other}
+use Rattle.rewriter.proofs.Endings.{root-1, root-3, root-4, root-6, root-other}
 use Rattle.rules.specs.Finding.{fittingOf, isFound, ruleOf}
 use Rattle.rules.proofs.Found.{Picked}
 use Rattle.turns.proofs.TreeRun.{endingOf, lastOf, keeps, run-is}
@@ -56,9 +55,16 @@ end-zero (raised e) = refl
 end-zero (stuck s) = ap Stuck (zero-add s)
 end-zero tooDeep = refl
 
-fired-same : (k x e : ℕ) → exnW x ≡ e → firedW k x ≡ firedAs k e
-fired-same zero x e q = ap Raised q
-fired-same (suc k) x e q = refl
+-- fire's ending, by the word under it
+fire-same : (k x : ℕ) → firedW k x ≡ endFrom k (pick (leb 32 x && leb x 47) (raised (x - 32)) (stuck 0))
+unfolding fireW
+fire-same k x = go k (leb 32 x && leb x 47) refl
+  where
+    go : (n : ℕ) (b : Bool) → (leb 32 x && leb x 47) ≡ b → firedW n x ≡ endFrom n (pick b (raised (x - 32)) (stuck 0))
+    go zero true e = ap (λ (c : Bool). pick c (Raised (x - 32)) (Stuck 0)) e
+    go zero false e = ap (λ (c : Bool). pick c (Raised (x - 32)) (Stuck 0)) e
+    go (suc n) true e = refl
+    go (suc n) false e = ap Stuck (sym (add-zero (suc n)))
 
 module _ (ks : List ℕ) where
   read-first : (w : ℕ) (ws : List ℕ) (k : ℕ) → w ≢ 2 → readW (w ∷ ws) k ≡ rootW w k (getD ws 0 0)
@@ -77,27 +83,29 @@ module _ (ks : List ℕ) where
   unfolding arityOf
   fire-parts = refl
 
-  exn-is : (ts : Trees) (rest : List ℕ) → len ts ≡ 1 → Fires (node 6 ts) → exnW (getD (allWords ts ++ rest) 0 0) ≡ exceptionOf ts
-  exn-is [·] rest n f = absurd (omega arith)
-  exn-is (var x ▹ ts) rest n f = absurd (no-variable-fired x ts f)
-  exn-is (node s us ▹ ts) rest n f = sym (exn-word s (s - 32) refl)
+  fire-is : (ts : Trees) (rest : List ℕ) (k : ℕ) → len ts ≡ 1 → firedW k (getD (allWords ts ++ rest) 0 0) ≡ endFrom k (readOffFire ts)
+  fire-is [·] rest k n = absurd (omega arith)
+  fire-is (var x ▹ ts) rest k n =
+      fire-same k (64 + x) ∙ ap (λ (b : Bool). endFrom k (pick (leb 32 (64 + x) && b) (raised ((64 + x) - 32)) (stuck 0))) (leb-false (64 + x) 47 (omega arith))
+      ∙ ap (λ (b : Bool). endFrom k (pick (b && false) (raised ((64 + x) - 32)) (stuck 0))) (leb-true 32 (64 + x) (omega arith))
+  fire-is (node s us ▹ ts) rest k n = fire-same k s
 
-  shown-other : (s : ℕ) (p : Ending) (e : ℕ) → s ≢ 1 → s ≢ 3 → s ≢ 4 → s ≢ 2 → s ≢ 6 → endingAtRoot s p e ≡ stuck 0
+  shown-other : (s : ℕ) (p e : Ending) → s ≢ 1 → s ≢ 3 → s ≢ 4 → s ≢ 2 → s ≢ 6 → endingAtRoot s p e ≡ stuck 0
   shown-other s p e a b c d f = rw (eqb-false s 1 a, eqb-false s 3 b, eqb-false s 4 c, eqb-false s 2 d, eqb-false s 6 f) refl
 
   -- a root that is no succ
-  module _ (s : ℕ) (ts : Trees) (rest : List ℕ) (k : ℕ) (h : Shaped (arityOf ks) (node s ts)) (f : Fires (node s ts)) (n2 : s ≢ 2) where
+  module _ (s : ℕ) (ts : Trees) (rest : List ℕ) (k : ℕ) (h : Shaped (arityOf ks) (node s ts)) (n2 : s ≢ 2) where
     abbrev x : ℕ
     x = getD (allWords ts ++ rest) 0 0
 
     abbrev Goal : Type 0
-    Goal = rootW s k x ≡ endFrom k (endingAtRoot s (readOffPart ts) (exceptionOf ts))
+    Goal = rootW s k x ≡ endFrom k (endingAtRoot s (readOffPart ts) (readOffFire ts))
 
-    like : (m : ℕ) → s ≡ m → rootW m k x ≡ endFrom k (endingAtRoot m (readOffPart ts) (exceptionOf ts)) → Goal
-    like m e g = subst (λ (w : ℕ). rootW w k x ≡ endFrom k (endingAtRoot w (readOffPart ts) (exceptionOf ts))) (sym e) g
+    like : (m : ℕ) → s ≡ m → rootW m k x ≡ endFrom k (endingAtRoot m (readOffPart ts) (readOffFire ts)) → Goal
+    like m e g = subst (λ (w : ℕ). rootW w k x ≡ endFrom k (endingAtRoot w (readOffPart ts) (readOffFire ts))) (sym e) g
 
-    fired : s ≡ 6 → rootW 6 k x ≡ firedAs k (exceptionOf ts)
-    fired e = sym (root-6 k x) ∙ fired-same k x (exceptionOf ts) (exn-is ts rest (h .1 ∙ ap (arityOf ks) e ∙ fire-parts) (subst (λ (w : ℕ). Fires (node w ts)) e f))
+    fired : s ≡ 6 → rootW 6 k x ≡ endFrom k (readOffFire ts)
+    fired e = sym (root-6 k x) ∙ fire-is ts rest k (h .1 ∙ ap (arityOf ks) e ∙ fire-parts)
 
     root-is : Goal
     root-is = by-1 (eqb s 1) refl
@@ -106,7 +114,7 @@ module _ (ks : List ℕ) where
         by-6 a c d true e = like 6 (eq-of-eqb s 6 e) (fired (eq-of-eqb s 6 e))
         by-6 a c d false e =
             sym (root-other k x s a c d (ne-of-eqb s 6 e)) ∙ ap Stuck (sym (add-zero k))
-            ∙ ap (endFrom k) (sym (shown-other s (readOffPart ts) (exceptionOf ts) a c d n2 (ne-of-eqb s 6 e)))
+            ∙ ap (endFrom k) (sym (shown-other s (readOffPart ts) (readOffFire ts) a c d n2 (ne-of-eqb s 6 e)))
 
         by-4 : s ≢ 1 → s ≢ 3 → (b : Bool) → eqb s 4 ≡ b → Goal
         by-4 a c true e = like 4 (eq-of-eqb s 4 e) (sym (root-4 k x) ∙ ap (λ (n : ℕ). Value n (constOf (base falseB))) (sym (add-zero k)))
@@ -121,26 +129,26 @@ module _ (ks : List ℕ) where
         by-1 false e = by-3 (ne-of-eqb s 1 e) (eqb s 3) refl
 
   mutual
-    read-tree : (t : Tree) (rest : List ℕ) (k : ℕ) → Shaped (arityOf ks) t → Fires t → readW (words t ++ rest) k ≡ endFrom k (readOff t)
-    read-tree (var x) rest k h f =
+    read-tree : (t : Tree) (rest : List ℕ) (k : ℕ) → Shaped (arityOf ks) t → readW (words t ++ rest) k ≡ endFrom k (readOff t)
+    read-tree (var x) rest k h =
         read-first (64 + x) rest k (λ e. omega arith)
         ∙ sym (root-other k (getD rest 0 0) (64 + x) (λ e. omega arith) (λ e. omega arith) (λ e. omega arith) (λ e. omega arith)) ∙ ap Stuck (sym (add-zero k))
-    read-tree (node s ts) rest k h f = by-2 (eqb s 2) refl (λ n. read-parts s ts rest (k + 1) n (h .2) f)
+    read-tree (node s ts) rest k h = by-2 (eqb s 2) refl (λ n. read-parts ts rest (k + 1) n (h .2))
       where
         by-2 : (b : Bool) → eqb s 2 ≡ b → (len ts ≡ 1 → readW (allWords ts ++ rest) (k + 1) ≡ endFrom (k + 1) (readOffPart ts))
-            → readW (s ∷ (allWords ts ++ rest)) k ≡ endFrom k (endingAtRoot s (readOffPart ts) (exceptionOf ts))
+            → readW (s ∷ (allWords ts ++ rest)) k ≡ endFrom k (endingAtRoot s (readOffPart ts) (readOffFire ts))
         by-2 true e part =
             let q = eq-of-eqb s 2 e in
             read-up s (allWords ts ++ rest) k q ∙ part (h .1 ∙ ap (arityOf ks) q ∙ succ-parts) ∙ end-up k (readOffPart ts)
-            ∙ ap (λ (w : ℕ). endFrom k (endingAtRoot w (readOffPart ts) (exceptionOf ts))) (sym q)
-        by-2 false e part = read-first s (allWords ts ++ rest) k (ne-of-eqb s 2 e) ∙ root-is s ts rest k h f (ne-of-eqb s 2 e)
+            ∙ ap (λ (w : ℕ). endFrom k (endingAtRoot w (readOffPart ts) (readOffFire ts))) (sym q)
+        by-2 false e part = read-first s (allWords ts ++ rest) k (ne-of-eqb s 2 e) ∙ root-is s ts rest k h (ne-of-eqb s 2 e)
 
-    read-parts : (s : ℕ) (ts : Trees) (rest : List ℕ) (k : ℕ) → len ts ≡ 1 → Shapeds (arityOf ks) ts → Fires (node s ts) → readW (allWords ts ++ rest) k ≡ endFrom k (readOffPart ts)
-    read-parts s [·] rest k n h f = absurd (omega arith)
-    read-parts s (t ▹ ts) rest k n h f = ap (λ (l : List ℕ). readW l k) (append-assoc (words t) (allWords ts) rest) ∙ read-tree t (allWords ts ++ rest) k (h .0) (fires-part s t ts f)
+    read-parts : (ts : Trees) (rest : List ℕ) (k : ℕ) → len ts ≡ 1 → Shapeds (arityOf ks) ts → readW (allWords ts ++ rest) k ≡ endFrom k (readOffPart ts)
+    read-parts [·] rest k n h = absurd (omega arith)
+    read-parts (t ▹ ts) rest k n h = ap (λ (l : List ℕ). readW l k) (append-assoc (words t) (allWords ts) rest) ∙ read-tree t (allWords ts ++ rest) k (h .0)
 
-  pub read-is : (t : Tree) → Shaped (arityOf ks) t → Fires t → readW (words t) 0 ≡ endOf (readOff t)
-  read-is t h f = ap (λ (l : List ℕ). readW l 0) (sym (append-nil (words t))) ∙ read-tree t [] 0 h f ∙ end-zero (readOff t)
+  pub read-is : (t : Tree) → Shaped (arityOf ks) t → readW (words t) 0 ≡ endOf (readOff t)
+  read-is t h = ap (λ (l : List ℕ). readW l 0) (sym (append-nil (words t))) ∙ read-tree t [] 0 h ∙ end-zero (readOff t)
 
   -- what a run shows at its end is read off its last tree, which has its shape
   abbrev finish : Said → Tree → Said
@@ -150,49 +158,48 @@ module _ (ks : List ℕ) where
 
   record Ended (a : Answer) (t : Tree) : Type 0 where
     shaped : Shaped (arityOf ks) t
-    fires : Fires t
     said : a .said ≡ finish (a .said) t
 
-  said-is : (s : Said) (t : Tree) → Shaped (arityOf ks) t → Fires t → s ≡ finish s t → saidW (endingOf s) (words t) ≡ saidOf s
-  said-is (is x) t h f e = read-is t h f ∙ ap saidOf (sym e)
-  said-is outOfSteps t h f e = refl
-  said-is tooBig t h f e = refl
+  said-is : (s : Said) (t : Tree) → Shaped (arityOf ks) t → s ≡ finish s t → saidW (endingOf s) (words t) ≡ saidOf s
+  said-is (is x) t h e = read-is t h ∙ ap saidOf (sym e)
+  said-is outOfSteps t h e = refl
+  said-is tooBig t h e = refl
 
   module _ (st own si oi : List ℕ) (rs : List Rule) (proper : ProperRules rs) (hs : ShapedRules (arityOf ks) rs)
       (found : (t : Tree) → Shaped (arityOf ks) t → (rest : List ℕ) → let f = fittingOf ks st own si oi (words t ++ rest) in Picked ks t rs (ruleOf st own f) (isFound f))
-      (vars : (x : ℕ) → firstFit rs (var x) ≡ none) (fires-on : (t : Tree) → Fires t → FiresO (step (firstFit rs) t)) (room : ℕ) where
+      (vars : (x : ℕ) → firstFit rs (var x) ≡ none) (room : ℕ) where
     abbrev root : Tree → Option Tree
     root = firstFit rs
 
     abbrev N : List ℕ → Option (List ℕ)
     N = nextW ks st own si oi
 
-    end-out : (t : Tree) (o : Option Tree) → Shaped (arityOf ks) t → Fires t → Ended (turn o t (λ u. says outOfSteps 0)) t
-    end-out t none h f = record { shaped = h; fires = f; said = refl }
-    end-out t (some u) h f = record { shaped = h; fires = f; said = refl }
+    end-out : (t : Tree) (o : Option Tree) → Shaped (arityOf ks) t → Ended (turn o t (λ u. says outOfSteps 0)) t
+    end-out t none h = record { shaped = h; said = refl }
+    end-out t (some u) h = record { shaped = h; said = refl }
 
-    end-more : (n : ℕ) (t : Tree) (o : Option Tree) → Shaped (arityOf ks) t → Fires t → ShapedO (arityOf ks) o → FiresO o
-        → ((u : Tree) → Shaped (arityOf ks) u → Fires u → Ended (runInRoom root room n u) (lastTerm root room n u))
+    end-more : (n : ℕ) (t : Tree) (o : Option Tree) → Shaped (arityOf ks) t → ShapedO (arityOf ks) o
+        → ((u : Tree) → Shaped (arityOf ks) u → Ended (runInRoom root room n u) (lastTerm root room n u))
         → Ended (turn o t (λ u. choose (leb (size u) room) (λ x. oneMore (runInRoom root room n u)) (λ x. says tooBig 1))) (lastAtTurn o t room (lastTerm root room n))
-    end-more n t none h f k g ih = record { shaped = h; fires = f; said = refl }
-    end-more n t (some u) h f k g ih = both (leb (size u) room)
+    end-more n t none h k ih = record { shaped = h; said = refl }
+    end-more n t (some u) h k ih = both (leb (size u) room)
       where
         both : (b : Bool) → Ended (choose b (λ x. oneMore (runInRoom root room n u)) (λ x. says tooBig 1)) (choose b (λ x. lastTerm root room n u) (λ x. t))
-        both true = let e = ih u k g in record { shaped = e .shaped; fires = e .fires; said = e .said }
-        both false = record { shaped = h; fires = f; said = refl }
+        both true = let e = ih u k in record { shaped = e .shaped; said = e .said }
+        both false = record { shaped = h; said = refl }
 
-    ended : (n : ℕ) (t : Tree) → Shaped (arityOf ks) t → Fires t → Ended (runInRoom root room n t) (lastTerm root room n t)
+    ended : (n : ℕ) (t : Tree) → Shaped (arityOf ks) t → Ended (runInRoom root room n t) (lastTerm root room n t)
     unfolding runInRoom lastTerm
-    ended zero t h f = end-out t (step root t) h f
-    ended (suc n) t h f = end-more n t (step root t) h f (keeps ks st own si oi rs proper hs found vars room t h) (fires-on t f) (λ u k g. ended n u k g)
+    ended zero t h = end-out t (step root t) h
+    ended (suc n) t h = end-more n t (step root t) h (keeps ks st own si oi rs proper hs found vars room t h) (ended n)
 
     answer-same : (a : Answer) (t : Tree) → Ended a t → answerW (lastOf 0 a t) ≡ answerOf a
-    answer-same a t e = ap₂ (λ (s : CodeSaid) (n : ℕ). record { said = s; steps = n }) (said-is (a .said) t (e .shaped) (e .fires) (e .said)) (zero-add (a .steps))
+    answer-same a t e = ap₂ (λ (s : CodeSaid) (n : ℕ). record { said = s; steps = n }) (said-is (a .said) t (e .shaped) (e .said)) (zero-add (a .steps))
 
-    pub from-is : (n : ℕ) (t : Tree) → Shaped (arityOf ks) t → Fires t
+    pub from-is : (n : ℕ) (t : Tree) → Shaped (arityOf ks) t
         → (answerW (runFrom N room n (words t)) ≡ answerOf (choose (leb (size t) room) (λ x. runInRoom root room n t) (λ x. says tooBig 0)))
         × (runFrom N room n (words t) .term ≡ choose (leb (size t) room) (λ x. words (lastTerm root room n t)) (λ x. []))
-    from-is n t h f = (
+    from-is n t h = (
       ap (λ (k : ℕ). answerW (start (leb k room))) (length-words t) ∙ said (leb (size t) room),
       ap (λ (k : ℕ). start (leb k room) .term) (length-words t) ∙ term (leb (size t) room),
     )
@@ -204,7 +211,7 @@ module _ (ks : List ℕ) where
         r = run-is ks st own si oi rs proper hs found vars room n 0 t h
 
         said : (b : Bool) → answerW (pick b (run N room n 0 (words t)) (record { ending = big-ending; steps = 0; term = [] })) ≡ answerOf (choose b (λ x. runInRoom root room n t) (λ x. says tooBig 0))
-        said true = ap answerW r ∙ answer-same (runInRoom root room n t) (lastTerm root room n t) (ended n t h f)
+        said true = ap answerW r ∙ answer-same (runInRoom root room n t) (lastTerm root room n t) (ended n t h)
         said false = refl
 
         term : (b : Bool) → pick b (run N room n 0 (words t)) (record { ending = big-ending; steps = 0; term = [] }) .term ≡ choose b (λ x. words (lastTerm root room n t)) (λ x. [])

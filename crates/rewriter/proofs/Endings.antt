@@ -8,15 +8,23 @@ use lib.Dec.{eqb}
 use lib.ListN.{length, getD, drop, drop-of-length-le}
 use Rattle.theory.proofs.Lists.{drop-next}
 use Rattle.theory.specs.Syntax.{pick}
-use Rattle.theory.proofs.Tests.{eqb-true, eqb-false}
-use Rattle.rewriter.specs.Read.{exnW, firedW, rootW, readW}
+use Rattle.theory.proofs.Tests.{eqb-true, eqb-false, leb-true, leb-false}
+use Rattle.rewriter.specs.Read.{fireW, firedW, rootW, readW}
 use Rattle.rewriter.specs.declared.ending.Base.the-variants as b
 use Rattle.rewriter.specs.declared.ending.Said.the-variants.{Value, Raised, Stuck}
 
 -- ---- the code's cases
-pub exn-word : (w x : ℕ) → x ≡ w - 32 → x ≡ exnW w
-unfolding exnW
-exn-word w x q = q
+pub fire-below : (x : ℕ) → x < 32 → Stuck 0 ≡ fireW x
+unfolding fireW
+fire-below x h = rw (leb-false 32 x h) refl
+
+pub fire-above : (x : ℕ) → 32 ≤ x → 47 < x → Stuck 0 ≡ fireW x
+unfolding fireW
+fire-above x l h = rw (leb-true 32 x l, leb-false x 47 h) refl
+
+pub fire-exception : (x : ℕ) → 32 ≤ x → x ≤ 47 → Raised (x - 32) ≡ fireW x
+unfolding fireW
+fire-exception x l h = rw (leb-true 32 x l, leb-true x 47 h) refl
 
 module _ (k x : ℕ) where
   pub root-1 : Value k b.Zero ≡ rootW 1 k x
@@ -39,7 +47,7 @@ module _ (k x : ℕ) where
   unfolding rootW
   root-other w a c d e = rw (eqb-false w 1 a, eqb-false w 3 c, eqb-false w 4 d, eqb-false w 6 e) refl
 
-pub fired-first : (k x : ℕ) → k ≡ 0 → Raised (exnW x) ≡ firedW k x
+pub fired-first : (k x : ℕ) → k ≡ 0 → fireW x ≡ firedW k x
 fired-first k x e = ap (λ (n : ℕ). firedW n x) (sym e)
 
 pub fired-later : (k x : ℕ) → k ≢ 0 → Stuck k ≡ firedW k x

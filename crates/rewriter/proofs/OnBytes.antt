@@ -1,9 +1,7 @@
 -- THE REWRITER FROM THE BYTES: with the lists that a read program comes to, its answer is the theory's, and the first buffer holds the
--- theory's last term. The theory gives a value to two things that no accepted program comes to, and the code has no case for them: a right
--- side's variable that the left has not (its rules are proper, `accepted-rules-proper`, so each variable has its part, `filled-is`), and a
--- variable behind fire (none stands there in any term of a run, `program-fires`, `no-variable-fired`). The cases that the code still has and
--- no accepted program reaches show nothing of their own: a word below 32 behind fire has the theory's value (`exn_of`); a rule that is not
--- whole, and a term that ends before its left side does (`apply_rule`), would end a run where the theory's goes on.
+-- theory's last term. The theory gives a value to a right side's variable that the left has not, and the code has no case for it: an accepted
+-- program's rules are proper (`accepted-rules-proper`), so each variable has its part (`filled-is`). The early ends of `apply_rule` (a rule that
+-- is not whole, a term that ends before its left side does) would end a run where the theory's goes on; no accepted program reaches them.
 use mathlib.Core.Path.{_≡_, sym, ap, _∙_}
 use mathlib.Core.List.{List, []}
 use Prim.Native.Nat.{ℕ}

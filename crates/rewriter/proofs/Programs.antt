@@ -12,7 +12,6 @@ use Rattle.theory.specs.Turns.{rewriter}
 use Rattle.theory.specs.Answers.{lastWords}
 use Rattle.theory.specs.Proper.{ProperRules}
 use Rattle.theory.proofs.Shape.{tree-shaped}
-use Rattle.theory.proofs.Exceptions.{question-fires, program-fires}
 use Rattle.words.specs.Terms.{arityOf}
 use Rattle.rules.specs.Index.{indexOf}
 use Rattle.rules.specs.Finding.{fittingOf, isFound, ruleOf}
@@ -42,5 +41,5 @@ module _ (ks st own si oi : List ℕ) (P : Program) (sound : Sound P) (proper : 
     pub run-is-theirs : (answerW (runOn ks st own si oi ws room n) ≡ answerOf (rewriter P room n q)) × (runOn ks st own si oi ws room n .term ≡ lastWords P room n q)
     unfolding runOn rewriter
     run-is-theirs =
-        let theirs = from-is ks st own si oi (rules P) proper (all-shaped ks st own P sound lent) found vars (program-fires P (sound .few)) room n (tree q) shaped (question-fires q) in
+        let theirs = from-is ks st own si oi (rules P) proper (all-shaped ks st own P sound lent) found vars room n (tree q) shaped in
         (ap (λ (l : List ℕ). answerW (runOn ks st own si oi l room n)) stands ∙ theirs .0, ap (λ (l : List ℕ). runOn ks st own si oi l room n .term) stands ∙ theirs .1)

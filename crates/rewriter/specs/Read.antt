@@ -1,7 +1,8 @@
 -- The ending that a term's words show, and the answer of a run.
 use Prim.Native.Nat.{ℕ, zero, suc, _+_, _-_}
 use mathlib.Core.List.{List, [], _∷_}
-use lib.Dec.{eqb}
+use mathlib.Core.Bool.{_&&_}
+use lib.Dec.{eqb, leb}
 use lib.ListN.{getD}
 use Rattle.theory.specs.Syntax.{pick}
 use Rattle.step.specs.Next.{nextW}
@@ -14,13 +15,13 @@ use Rattle.rewriter.specs.declared.ending.Said.{Said}
 use Rattle.rewriter.specs.declared.ending.Said.the-variants.{Value, Raised, Stuck, Out, Big}
 use Rattle.rewriter.specs.declared.Answer.{Answer}
 
--- the exception whose word is w
-unfoldable pub exnW : ℕ → ℕ
-exnW w = w - 32
+-- fire over the word x: an exception's word is one of 32 to 47; over anything else it is stuck
+unfoldable pub fireW : ℕ → Said
+fireW x = pick (leb 32 x && leb x 47) (Raised (x - 32)) (Stuck 0)
 
 -- fire under k succ signs
 abbrev pub firedW : ℕ → ℕ → Said
-firedW zero x = Raised (exnW x)
+firedW zero x = fireW x
 firedW (suc k) x = Stuck (suc k)
 
 -- the ending of a term under k succ signs whose root is w, no succ, and whose next word is x

@@ -2,7 +2,7 @@
 use rules::index::word_at;
 use turns::run::Ending;
 ghost use mathlib.Core.Path.{_≡_};
-ghost use Rattle.rewriter.specs.Read.{exnW, rootW, readW, saidW};
+ghost use Rattle.rewriter.specs.Read.{fireW, rootW, readW, saidW};
 
 // The constants of values.
 pub enum Base {
@@ -25,15 +25,17 @@ pub enum Said {
     Big,
 }
 
-// The exception whose word is w: the exceptions' words are 32 and on; below them it is 0, as in the theory (`exceptionOf`). A variable's
-// word, for which the theory has another answer, stands behind fire in no term of an accepted program's run.
-fn exn_of(w: u16) -> u16
-    ensures { λ r. ⌜ r ≡ exnW w ⌝ }
+// Fire over the word x: an exception's word is one of 32 to 47; over anything else it is stuck.
+fn fire_of(x: u16) -> Said
+    ensures { λ r. ⌜ r ≡ fireW x ⌝ }
 {
-    if w < 32 {
-        return 0;
+    if x < 32 {
+        return Said::Stuck(0);
     }
-    w - 32
+    if x > 47 {
+        return Said::Stuck(0);
+    }
+    Said::Raised(x - 32)
 }
 
 // The ending of a term under k succ whose root is w, and whose next word is x.
@@ -46,7 +48,7 @@ fn at_root(w: u16, k: usize, x: u16) -> Said
         4 => Said::Value(k, Base::False),
         6 => {
             if k == 0 {
-                return Said::Raised(exn_of(x));
+                return fire_of(x);
             }
             Said::Stuck(k)
         }

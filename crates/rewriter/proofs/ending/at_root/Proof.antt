@@ -1,19 +1,18 @@
 -- `ending::at_root` meets its contract.
-use mathlib.Core.Path.{ap, _∙_}
+use mathlib.Core.Path.{_∙_}
 use native.Mathlib.Omega.{arith}
-use Rattle.rewriter.specs.declared.ending.Said.the-variants.{Raised}
 use Rattle.rewriter.proofs.Endings.{root-1, root-3, root-4, root-6, root-other, fired-first, fired-later}
 use borrow.Author.Needs.{needs}
 use Rattle.rewriter.proofs.ending.at_root.Statement.{statement}
 use Rattle.rewriter.proofs.ending.at_root.Tie as tie
 
-exn-of-requires : tie.Need-exn-of-requires
-exn-of-requires c κs = search needs
+fire-of-requires : tie.Need-fire-of-requires
+fire-of-requires c κs = search needs
 
 returns : tie.Need-returns
 returns c =
     let a = c .before .before .before .args in
-    cc (ap Raised (c .exn-of .ensures) ∙ fired-first (a .k) (a .x) (c .before .if1 .taken) ∙ root-6 (a .k) (a .x))
+    cc (c .fire-of .ensures ∙ fired-first (a .k) (a .x) (c .before .if1 .taken) ∙ root-6 (a .k) (a .x))
 
 returns-2 : tie.Need-returns-2
 returns-2 c = cc (root-1 (c .before .args .k) (c .before .args .x))
@@ -34,4 +33,4 @@ returns-6 c = search (root-other, arith)
 
 pub at-root-spec : {M : Type 1} → statement M
 at-root-spec =
-    tie.close (tie.spec exn-of-requires returns returns-2 returns-3 returns-4 returns-5 returns-6)
+    tie.close (tie.spec fire-of-requires returns returns-2 returns-3 returns-4 returns-5 returns-6)
