@@ -9,12 +9,12 @@ use native.Mathlib.Omega.{arith}
 use lib.Dec.{leb}
 use lib.ListN.{getD, drop}
 use Rattle.theory.specs.Syntax.{orElse}
-use Rattle.theory.specs.Tree.{Tree, Trees, var, node, [·], _▹_, noSubst, match, Rule, filled, firstFit, active, size, len, headSym}
+use Rattle.theory.specs.Tree.{Tree, Trees, var, node, [·], _▹_, noSubst, match, Rule, filled, firstFit, active, size, len}
 use Rattle.theory.specs.Words.{words, allWords, isVar, Shaped, Shapeds}
 use Rattle.theory.specs.Overlap.{IsSome}
 use Rattle.theory.proofs.Readability.{isVar-word}
 use Rattle.theory.proofs.Tests.{le-of-leb, lt-of-leb}
-use Rattle.theory.proofs.Shape.{ShapedRules}
+use Rattle.theory.proofs.Shape.{headSym, ShapedRules}
 use Rattle.theory.proofs.Place.{Site, shift, rootSite, site, sitePart}
 use Rattle.theory.proofs.Active.{active-none}
 use Rattle.words.specs.declared.terms.Reach.the-variants.{End}

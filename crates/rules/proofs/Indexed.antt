@@ -10,8 +10,9 @@ use lib.Dec.{leb, ltb}
 use lib.ListN.{length, take, length-append}
 use borrow.Author.Tests.{ltb-true}
 use Rattle.theory.specs.Syntax.{pick}
-use Rattle.theory.specs.Tree.{Tree, var, node, Rule, headSym}
+use Rattle.theory.specs.Tree.{Tree, var, node, Rule}
 use Rattle.theory.specs.Words.{words, allWords, isVar, storedRule, storedRules}
+use Rattle.theory.proofs.Shape.{headSym}
 use Rattle.words.specs.declared.terms.Reach.{Reach}
 use Rattle.rules.specs.Matching.{reached, fits}
 use Rattle.rules.specs.Index.{slotOf, indexOf, spanOf, partIn}

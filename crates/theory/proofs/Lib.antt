@@ -13,11 +13,11 @@ pub mod Roots
 pub mod RootsHold
 pub mod OverlapMeaning
 pub mod Table
-pub mod Separate
 -- the paper's own definitions
 pub mod PaperEvaluation
 pub mod PaperRewriting
 pub mod PaperTranslation
+pub mod Separate
 -- the two engines
 pub mod BudgetIsCut
 pub mod Levels
@@ -29,8 +29,8 @@ pub mod Checked
 pub mod Accepted
 pub mod RecordsOfTerms
 pub mod SidesRead
-pub mod EnoughFuel
 pub mod AcceptedExactly
+pub mod EnoughFuel
 pub mod RefusalTen
 pub mod AcceptedProper
 -- how large things get

@@ -13,12 +13,12 @@ use Rattle.theory.specs.Tree.{Tree, Trees, var, node, [·], _▹_, Subst
 use Rattle.theory.specs.Rewriting.{Finite, Position, part, _∣_, change, put, Opens, succ-opens, if-opens, handle-opens, guard-opens, select-opens, auxiliary-opens, Posμ, at-root, below, Redex, Innermost, Rewrites, Normal}
 use Rattle.theory.specs.Words.{Shaped, Shapeds}
 use Rattle.theory.specs.Translation.{aux}
-use Rattle.theory.specs.Overlap.{IsSome, alone, apart}
+use Rattle.theory.specs.Overlap.{IsSome}
 use Rattle.theory.specs.Proper.{Distinct, treeVars, treesVars, ProperRule, ApartRule, ProperRules}
 use Rattle.theory.proofs.Tests.{T→true, le-of-leb, eqb-true, eq-of-eqb, then-some}
 use Rattle.theory.proofs.Lists.{or-true, elem-append, elem-left, elem-right, elem-one, all-in}
 use Rattle.theory.proofs.Reach.{step-shut}
-use Rattle.theory.proofs.OverlapMeaning.{only-one}
+use Rattle.theory.proofs.OverlapMeaning.{alone, apart, only-one}
 use Rattle.theory.proofs.Shape.{parts-aux}
 use Rattle.theory.proofs.Active.{active-high}
 

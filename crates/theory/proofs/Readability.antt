@@ -9,9 +9,28 @@ use lib.ListN.{length, length-append}
 use Rattle.theory.specs.Syntax.{pick}
 use Rattle.theory.specs.Builtins.{funOf}
 use Rattle.theory.specs.Tree.{Tree, Trees, var, node, [·], _▹_, size, sizes, len}
-use Rattle.theory.specs.Words.{words, allWords, isVar, firstTrees, laterTrees, joinTrees, forest, Shaped, Shapeds, storedRules}
+use Rattle.theory.specs.Words.{words, allWords, isVar, joinTrees, Shaped, Shapeds, storedRules}
 use Rattle.theory.specs.Translation.{standing}
 use Rattle.theory.proofs.Tests.{leb-true, le-of-leb}
+
+abbrev firstTrees : ℕ → Trees → Trees
+firstTrees zero ts = [·]
+firstTrees (suc n) [·] = [·]
+firstTrees (suc n) (t ▹ ts) = t ▹ firstTrees n ts
+
+abbrev laterTrees : ℕ → Trees → Trees
+laterTrees zero ts = ts
+laterTrees (suc n) [·] = [·]
+laterTrees (suc n) (t ▹ ts) = laterTrees n ts
+
+-- The trees that a list of words is, one after the other, where `parts` says how many parts a symbol has.
+module _ (parts : ℕ → ℕ) where
+  abbrev push : ℕ → Trees → Trees
+  push w ts = pick (isVar w) (var (w - 64) ▹ ts) (node w (firstTrees (parts w) ts) ▹ laterTrees (parts w) ts)
+
+  abbrev pub forest : List ℕ → Trees
+  forest [] = [·]
+  forest (w ∷ ws) = push w (forest ws)
 
 firsts-others : (n : ℕ) (ts : Trees) → allWords (firstTrees n ts) ++ allWords (laterTrees n ts) ≡ allWords ts
 firsts-others zero ts = refl

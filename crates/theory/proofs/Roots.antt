@@ -3,14 +3,22 @@ use Prim.Native.Nat.{ℕ, suc, _<_}
 use mathlib.Core.Path.{_≡_}
 use mathlib.Core.Logic.{_≢_}
 use mathlib.Core.Bool.{true, false}
-use mathlib.Core.List.{List}
+use mathlib.Core.List.{List, [], _∷_}
 use mathlib.Core.Option.{Option, none, some}
 use lib.Dec.{eqb}
-use Rattle.theory.specs.Syntax.{Base, trueB, falseB, Val, Program, Found, chosen}
+use Rattle.theory.specs.Syntax.{Base, trueB, falseB, Val, Term, Bindings, Program, Found, chosen}
 use Rattle.theory.specs.WellFormed.{Known}
-use Rattle.theory.specs.Tree.{Tree, Trees, node, _▹_, len}
-use Rattle.theory.specs.Translation.{baseT, succT, ttT, exnT, fireT, guardT, selectT, isDataT, ifT, raiseT, handleT, aux, valTs, under}
+use Rattle.theory.specs.Tree.{Tree, Trees, node, [·], _▹_, inst, len}
+use Rattle.theory.specs.Translation.{baseT, succT, ttT, exnT, fireT, guardT, selectT, isDataT, ifT, raiseT, handleT, aux, valT, tree}
 use Rattle.theory.proofs.Reach.{onto}
+
+-- values as trees, and a term under bindings as a tree
+abbrev pub valTs : List Val → Trees
+valTs [] = [·]
+valTs (v ∷ vs) = valT v ▹ valTs vs
+
+abbrev pub under : Bindings → Term → Tree
+under θ t = inst (λ x. valT (θ x)) (tree t)
 
 abbrev pub placed : Option Found → Option Tree
 placed none = none

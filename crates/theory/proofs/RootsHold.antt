@@ -11,10 +11,10 @@ use lib.Dec.{T, eqb, ltb, ltb→lt}
 use Rattle.theory.specs.Syntax.{Base, zeroB, trueB, falseB, Val, base, up, Pat, pbase, psucc, pvar, Def, Fun, Program, Bindings, pick, nothingBound, andThen, orElse, fit, fits, Found, found, chosen, elem}
 use Rattle.theory.specs.WellFormed.{Known, ProgramWellFormed}
 use Rattle.theory.specs.Tree.{Tree, Trees, var, node, [·], _▹_, Subst, bindTree, noSubst, insts, match, matches, Rule, filled, apply, firstFit, len}
-use Rattle.theory.specs.Translation.{baseT, succT, ttT, exnT, fireT, guardT, selectT, isDataT, ifT, raiseT, handleT, aux, valT, valTs, tree, patT, patTs, _⇒_, commonRules, numbers, gather, raiseRule, handleRule, sameRule, otherRule, exnRules, variables, argRule, ownRules, funRules, builtins, standing, ownList, rules}
+use Rattle.theory.specs.Translation.{baseT, succT, ttT, exnT, fireT, guardT, selectT, isDataT, ifT, raiseT, handleT, aux, valT, tree, patT, patTs, _⇒_, commonRules, numbers, gather, raiseRule, handleRule, sameRule, otherRule, exnRules, variables, argRule, ownRules, funRules, builtins, standing, ownList, rules}
 use Rattle.theory.proofs.Tests.{and-left, and-right, eqb-true, eqb-false, eq-of-eqb, ne-of-eqb}
 use Rattle.theory.proofs.Reach.{onto, past, past-suc, past-len, len-onto}
-use Rattle.theory.proofs.Roots.{placed, RootLaws}
+use Rattle.theory.proofs.Roots.{valTs, under, placed, RootLaws}
 
 -- options
 orElse-assoc : {A : Type 0} (a b c : Option A) → orElse (orElse a b) c ≡ orElse a (orElse b c)

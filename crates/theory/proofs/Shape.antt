@@ -14,6 +14,11 @@ use Rattle.theory.specs.Words.{isVar, Shaped, Shapeds}
 use Rattle.theory.specs.Translation.{baseT, exnT, fireT, selectT, aux, tree, trees, patT, patTs, _⇒_, commonRules, numbers, gather, raiseRule, handleRule, sameRule, otherRule, exnRules, variables, argRule, ownRules, funRules, builtins, standing, ownList, rules}
 use Rattle.theory.proofs.Tests.{and-left, and-right, leb-true, leb-false, eqb-false, is-false}
 
+-- the first word of a tree
+abbrev pub headSym : Tree → ℕ
+headSym (var x) = 64 + x
+headSym (node s ts) = s
+
 pub len-trees : (ts : Terms) → len (trees ts) ≡ many ts
 len-trees tnil = refl
 len-trees (tcons t ts) = ap suc (len-trees ts)

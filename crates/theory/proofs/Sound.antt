@@ -11,10 +11,10 @@ use Rattle.theory.specs.WellFormed.{Known, WellFormed, AllWellFormed, De
 use Rattle.theory.specs.Endings.{Ending, value, raised, stuck, tooDeep}
 use Rattle.theory.specs.Cost.{paying, after, Evaluating, succRow, handleRow, ifRow, Args, vals, ended, ArgCost, consRow, argRow, evalArgs, bodyRow, callRow, eval}
 use Rattle.theory.specs.Tree.{Tree, Trees, node, [·], _▹_, active, step, stepPart, first, later, insts, len}
-use Rattle.theory.specs.Translation.{baseT, succT, ttT, exnT, fireT, guardT, selectT, isDataT, ifT, handleT, aux, valT, valTs, under, trees}
+use Rattle.theory.specs.Translation.{baseT, succT, ttT, exnT, fireT, guardT, selectT, isDataT, ifT, handleT, aux, valT, trees}
 use Rattle.theory.proofs.Tests.{leb-true}
 use Rattle.theory.proofs.Reach.{onto, past, past-len, len-onto, step-root, step-shut, stepPart-zero, Reach, here, next, by, one, join, reach-in}
-use Rattle.theory.proofs.Roots.{placed, RootLaws}
+use Rattle.theory.proofs.Roots.{valTs, under, placed, RootLaws}
 
 abbrev pub succs : ℕ → Tree → Tree
 succs zero t = t

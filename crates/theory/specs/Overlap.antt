@@ -1,6 +1,6 @@
 -- Rules that overlap at the root: left sides with a common instance, and patterns that some list of values fits both.
 use mathlib.Core.Path.{_≡_}
-use mathlib.Core.Bool.{Bool, true, false, not, _&&_}
+use mathlib.Core.Bool.{Bool, true, false, _&&_}
 use mathlib.Core.List.{List, [], _∷_}
 use mathlib.Core.Option.{Option, none, some}
 use lib.Dec.{eqb}
@@ -25,16 +25,7 @@ abbrev mutual
   clashes (p ▹ ps) [·] = false
   clashes (p ▹ ps) (q ▹ qs) = clash p q && clashes ps qs
 
--- no two rules of a list overlap: the test
-abbrev pub alone : Tree → List Rule → Bool
-alone l [] = true
-alone l (r ∷ rs) = not (clash l (r .lhs)) && alone l rs
-
-abbrev pub apart : List Rule → Bool
-apart [] = true
-apart (r ∷ rs) = alone (r .lhs) rs && apart rs
-
--- and what it means: where a rule fits a tree, no later rule fits it
+-- where a rule of a list fits a tree, no later rule fits it
 abbrev pub OnlyOne : List Rule → Tree → Type 0
 OnlyOne [] t = Unit {0}
 OnlyOne (r ∷ rs) t = (IsSome (apply r t) → firstFit rs t ≡ none) × OnlyOne rs t

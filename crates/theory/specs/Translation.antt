@@ -2,8 +2,8 @@
 use Prim.Native.Nat.{ℕ, zero, suc, _+_, _*_}
 use mathlib.Core.List.{List, [], _∷_, _++_}
 use lib.Dec.{eqb}
-use Rattle.theory.specs.Syntax.{Base, zeroB, trueB, falseB, Val, base, up, Term, const, succ, tvar, raise, handle, cond, call, Terms, tnil, tcons, Pat, pbase, psucc, pvar, Def, Fun, Program, Bindings, pick}
-use Rattle.theory.specs.Tree.{Tree, Trees, var, node, [·], _▹_, Rule, inst}
+use Rattle.theory.specs.Syntax.{Base, zeroB, trueB, falseB, Val, base, up, Term, const, succ, tvar, raise, handle, cond, call, Terms, tnil, tcons, Pat, pbase, psucc, pvar, Def, Fun, Program, pick}
+use Rattle.theory.specs.Tree.{Tree, Trees, var, node, [·], _▹_, Rule}
 
 abbrev pub baseT : Base → Tree
 baseT zeroB = node 1 [·]
@@ -49,10 +49,6 @@ abbrev pub valT : Val → Tree
 valT (base b) = baseT b
 valT (up v) = succT (valT v)
 
-abbrev pub valTs : List Val → Trees
-valTs [] = [·]
-valTs (v ∷ vs) = valT v ▹ valTs vs
-
 abbrev mutual
   pub tree : Term → Tree
   tree (const b) = baseT b
@@ -75,10 +71,6 @@ patT (pvar x) = var x
 abbrev pub patTs : List Pat → Trees
 patTs [] = [·]
 patTs (p ∷ ps) = patT p ▹ patTs ps
-
--- a term under bindings, as a tree
-abbrev pub under : Bindings → Term → Tree
-under θ t = inst (λ x. valT (θ x)) (tree t)
 
 infix 30 _⇒_
 abbrev pub _⇒_ : Tree → Tree → Rule

@@ -107,7 +107,3 @@ abbrev mutual
   pub sizes : Trees → ℕ
   sizes [·] = 0
   sizes (t ▹ ts) = size t + sizes ts
-
-abbrev pub headSym : Tree → ℕ
-headSym (var x) = 64 + x
-headSym (node s ts) = s

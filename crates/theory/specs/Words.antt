@@ -1,4 +1,4 @@
--- Trees as root-first words, and words read back as trees; rules as they are stored (document 01, "Words of the rewrite system").
+-- Trees as root-first words; rules as they are stored (document 01, "Words of the rewrite system").
 use Prim.Native.Nat.{ℕ, zero, suc, _+_, _-_, _<_}
 use mathlib.Core.Path.{_≡_}
 use mathlib.Core.Bool.{Bool, false}
@@ -21,29 +21,11 @@ abbrev mutual
 abbrev pub isVar : ℕ → Bool
 isVar w = pick (leb 64 w) (leb w 71) false
 
-abbrev pub firstTrees : ℕ → Trees → Trees
-firstTrees zero ts = [·]
-firstTrees (suc n) [·] = [·]
-firstTrees (suc n) (t ▹ ts) = t ▹ firstTrees n ts
-
-abbrev pub laterTrees : ℕ → Trees → Trees
-laterTrees zero ts = ts
-laterTrees (suc n) [·] = [·]
-laterTrees (suc n) (t ▹ ts) = laterTrees n ts
-
 abbrev pub joinTrees : Trees → Trees → Trees
 joinTrees [·] us = us
 joinTrees (t ▹ ts) us = t ▹ joinTrees ts us
 
--- The trees that a list of words is, one after the other, where `parts` says how many parts a symbol has.
 module _ (parts : ℕ → ℕ) where
-  abbrev pub push : ℕ → Trees → Trees
-  push w ts = pick (isVar w) (var (w - 64) ▹ ts) (node w (firstTrees (parts w) ts) ▹ laterTrees (parts w) ts)
-
-  abbrev pub forest : List ℕ → Trees
-  forest [] = [·]
-  forest (w ∷ ws) = push w (forest ws)
-
   -- a tree in which each symbol has its parts
   abbrev mutual
     pub Shaped : Tree → Type 0
@@ -54,7 +36,7 @@ module _ (parts : ℕ → ℕ) where
     Shapeds [·] = Unit {0}
     Shapeds (t ▹ ts) = Shaped t × Shapeds ts
 
--- A rule as it is stored: left count, right count, left words, right words. The standing list has 45 rules.
+-- A rule as it is stored: left count, right count, left words, right words.
 abbrev pub storedRule : Rule → List ℕ
 storedRule r = size (r .lhs) ∷ size (r .rhs) ∷ (words (r .lhs) ++ words (r .rhs))
 

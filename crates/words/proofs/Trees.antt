@@ -12,9 +12,9 @@ use lib.ListN.{length, take, drop, List·getD-eq-default}
 use lib.Seq.{take-append-seam}
 use Rattle.theory.specs.Syntax.{pick}
 use Rattle.theory.specs.Tree.{Tree, Trees, var, node, [·], _▹_, size, sizes, len}
-use Rattle.theory.specs.Words.{words, allWords, isVar, forest, Shaped, Shapeds}
+use Rattle.theory.specs.Words.{words, allWords, isVar, Shaped, Shapeds}
 use Rattle.theory.proofs.Tests.{le-of-leb}
-use Rattle.theory.proofs.Readability.{isVar-le, words-forest, forest-words, length-words}
+use Rattle.theory.proofs.Readability.{forest, isVar-le, words-forest, forest-words, length-words}
 use Rattle.words.specs.declared.terms.Reach.the-variants.{End}
 use Rattle.words.specs.Terms.{arityOf, fixed, past, skipAt}
 use Rattle.words.specs.Stands.{Stands, TreeFrom}
