@@ -18,7 +18,6 @@ pub mod Definition41
 -- 4. Rewriting (004, definitions 2.1 to 2.4) and the rewriter's turns
 pub mod Rewriting
 pub mod Turns
-pub mod Which
 -- 5. Bytes, refusals, and what the public calls answer
 pub mod Bytes
 pub mod Encoding
