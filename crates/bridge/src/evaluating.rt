@@ -1,10 +1,10 @@
 // The evaluator, on what it is lent for an accepted program and question, and its answer as a report.
 use crate::report::Report;
 use crate::report::ended;
-use crate::report::of_word;
-use crate::report::size;
 use evaluator::values::Ending;
 use evaluator::values::Outcome;
+use numbers::size_of_u32;
+use numbers::u32_of_word;
 use rules::index::index_of;
 ghost use mathlib.Core.Path.{_≡_};
 ghost use Prim.Native.Nat.{_≤_};
@@ -34,7 +34,7 @@ fn outcome_report(outcome: Outcome) -> Report
     let steps = outcome.steps;
     match end {
         Ending::Done(v) => ended(1, v.succs, word_base(v.base), steps),
-        Ending::Raised(e) => ended(2, of_word(e), 0, steps),
+        Ending::Raised(e) => ended(2, u32_of_word(e), 0, steps),
         Ending::Stuck(s) => ended(3, s, 0, steps),
         Ending::Out => ended(4, 0, 0, steps),
         Ending::Deep => ended(5, 0, 0, steps),
@@ -62,7 +62,7 @@ pub fn run_evaluator<'a>(
         arities,
         &standing_index[..],
         &own_index[..],
-        size(levels),
+        size_of_u32(levels),
         steps,
     );
     outcome_report(outcome)

@@ -1,9 +1,9 @@
 // Refusals 1 to 12: the program's, then the question's, then the allowances'.
 use crate::report::Report;
-use crate::report::of_byte;
-use crate::report::of_size;
 use crate::report::refused;
 use checker::Checked;
+use numbers::u32_of_byte;
+use numbers::u32_of_size;
 ghost use mathlib.Core.Path.{_≡_};
 ghost use Prim.Native.Nat.{_<_};
 ghost use Rattle.bridge.specs.Judged.{refusedBy, judgedAs, allowances};
@@ -16,7 +16,7 @@ fn refusal_by(number: u8, about: u32, place: usize) -> Report
     if number == 0 {
         return refused(0, 0, 0);
     }
-    refused(of_byte(number), about, of_size(place))
+    refused(u32_of_byte(number), about, u32_of_size(place))
 }
 
 // The refusal, all zero where there is none, and the checker's answer on the program.

@@ -13,9 +13,9 @@ use judge::judge;
 use lend::Written;
 use lend::own_words;
 use lend::question_words;
+use numbers::size_of_u32;
 use report::Report;
 use report::refused;
-use report::size;
 use rewriting::run_rewriter;
 ghost use mathlib.Core.Path.{_≡_};
 ghost use Prim.Native.Nat.{_≤_};
@@ -186,7 +186,7 @@ pub fn rewrite(
     if !allowed(steps, room, 4096) {
         return refused(12, 1, 0);
     }
-    let most = size(room);
+    let most = size_of_u32(room);
     if first.len() < most {
         return refused(13, 1, 0);
     }

@@ -1,9 +1,9 @@
 // The rewriter, on what it is lent for an accepted program and question, and its answer as a report.
 use crate::report::Report;
 use crate::report::ended;
-use crate::report::of_size;
-use crate::report::of_word;
-use crate::report::size;
+use numbers::size_of_u32;
+use numbers::u32_of_size;
+use numbers::u32_of_word;
 use rewriter::Answer;
 use rewriter::ending::Base;
 use rewriter::ending::Said;
@@ -35,11 +35,11 @@ fn answer_report(answer: Answer) -> Report
     ensures { λ r. ⌜ r ≡ rewritingReport answer ⌝ }
 {
     let said = answer.said;
-    let steps = of_size(answer.steps);
+    let steps = u32_of_size(answer.steps);
     match said {
-        Said::Value(k, base) => ended(1, of_size(k), const_base(base), steps),
-        Said::Raised(e) => ended(2, of_word(e), 0, steps),
-        Said::Stuck(s) => ended(3, of_size(s), 0, steps),
+        Said::Value(k, base) => ended(1, u32_of_size(k), const_base(base), steps),
+        Said::Raised(e) => ended(2, u32_of_word(e), 0, steps),
+        Said::Stuck(s) => ended(3, u32_of_size(s), 0, steps),
         Said::Out => ended(4, 0, 0, steps),
         Said::Big => ended(6, 0, 0, steps),
     }
@@ -73,8 +73,8 @@ pub fn run_rewriter<'a>(
         asked,
         first,
         second,
-        size(steps),
-        size(room),
+        size_of_u32(steps),
+        size_of_u32(room),
     );
     answer_report(answer)
 }

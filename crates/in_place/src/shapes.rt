@@ -1,5 +1,5 @@
 // The rules after which a term differs in one word: which stored rules have their shape.
-use rules::matching::word;
+use numbers::size_of_word;
 use words::slices::same;
 use words::terms::arity;
 ghost use mathlib.Core.Path.{_≡_};
@@ -43,7 +43,7 @@ pub fn is_call(rule: &[u16], a: u16, n: usize) -> bool
     if rule.len() < n + 3 {
         return false;
     }
-    if word(rule[0]) != n + 1 {
+    if size_of_word(rule[0]) != n + 1 {
         return false;
     }
     if rule[2] != a {
@@ -84,7 +84,7 @@ pub fn is_test(arities: &[u8], rule: &[u16], n: usize) -> bool
     if x < 64 {
         return false;
     }
-    if n <= word(x - 64) {
+    if n <= size_of_word(x - 64) {
         return false;
     }
     let b = rule[n + 6];

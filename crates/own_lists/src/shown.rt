@@ -1,4 +1,5 @@
 // Lists and answers on standard output.
+use numbers::size_of_word;
 use super::lists::Answer;
 ghost use mathlib.Core.Path.{_≡_};
 ghost use Prim.Native.Nat.{_<_};
@@ -26,13 +27,6 @@ pub(crate) fn show_answer(answer: Answer) {
     }
 }
 
-fn wide(w: u16) -> usize
-    ensures { λ r. ⌜ r < 65536 ⌝ }
-    ensures { λ r. ⌜ r ≡ w ⌝ }
-{
-    w as usize
-}
-
 // Whether this is the last word of a rule: so many are left of it.
 fn behind(left: usize) {
     if left == 1 {
@@ -48,7 +42,7 @@ fn rule_size(own: &[u16], i: usize) -> usize
     ensures { λ r. ⌜ 0 < r ⌝ }
 {
     if i + 1 < own.len() {
-        return 2 + wide(own[i]) + wide(own[i + 1]);
+        return 2 + size_of_word(own[i]) + size_of_word(own[i + 1]);
     }
     1
 }
@@ -70,7 +64,7 @@ pub(crate) fn show_rules(own: &[u16]) {
     let mut left = 0;
     while i < own.len() {
         let here = left_at(own, i, left);
-        show_number(wide(own[i]));
+        show_number(size_of_word(own[i]));
         behind(here);
         left = here - 1;
         i += 1;
@@ -81,7 +75,7 @@ pub(crate) fn show_rules(own: &[u16]) {
 pub(crate) fn show_words(ws: &[u16]) {
     let mut i = 0;
     while i < ws.len() {
-        show_number(wide(ws[i]));
+        show_number(size_of_word(ws[i]));
         i += 1;
         behind(ws.len() - i + 1);
     }
@@ -116,7 +110,7 @@ pub(crate) fn sum_of(own: &[u16]) -> usize
     let mut sum = 0;
     let mut i = 0;
     while i < own.len() {
-        sum = mixed(sum, wide(own[i]));
+        sum = mixed(sum, size_of_word(own[i]));
         i += 1;
     }
     sum

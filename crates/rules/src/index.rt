@@ -1,6 +1,6 @@
 // An index of a stored list by root symbol, so that a search looks only at the rules that can fit.
 // For slot s, word 2s is the place of the first rule whose root has that slot, word 2s + 1 the place past the last; both 0 where there is none.
-use crate::matching::word;
+use numbers::size_of_word;
 ghost use mathlib.Core.Path.{_≡_};
 ghost use Prim.Native.Nat.{_+_, _*_, _≤_};
 ghost use lib.Dec.{ltb};
@@ -13,13 +13,13 @@ pub fn slot_of(w: u16) -> usize
     ensures small { λ r. ⌜ r ≤ 400 ⌝ }
 {
     if w < 16 {
-        return word(w);
+        return size_of_word(w);
     }
     if w < 256 {
         return 400;
     }
     if w < 640 {
-        return word(w - 240);
+        return size_of_word(w - 240);
     }
     400
 }
@@ -56,8 +56,8 @@ pub fn index_of(list: &[u16]) -> [usize; 802]
         if list.len() - at < 2 {
             return index;
         }
-        let l = word(list[at]);
-        let r = word(list[at + 1]);
+        let l = size_of_word(list[at]);
+        let r = size_of_word(list[at + 1]);
         let from = at + 2;
         if list.len() - from < l + r {
             return index;

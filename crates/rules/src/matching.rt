@@ -1,4 +1,5 @@
 // Does a rule's left side fit the words of a term, and which of the words does each of its variables take?
+use numbers::size_of_word;
 use words::terms::Reach;
 use words::terms::skip;
 ghost use mathlib.Core.Path.{_≡_};
@@ -15,13 +16,6 @@ pub fn is_var(w: u16) -> bool
         return false;
     }
     w <= 71
-}
-
-pub fn word(w: u16) -> usize
-    ensures { λ r. ⌜ r ≡ w ⌝ }
-    ensures small { λ r. ⌜ r < 65536 ⌝ }
-{
-    w as usize
 }
 
 // Where each variable's words start and end in the subject, a slot for each of eight variables; both 0 where it has none.
@@ -80,7 +74,7 @@ pub fn bind(arities: &[u8], left: &[u16], subject: &[u16]) -> Bound
         match take_word(arities, p, subject, j) {
             Reach::End(e) => {
                 if is_var(p) {
-                    let v = word(p - 64);
+                    let v = size_of_word(p - 64);
                     b.starts[v] = j;
                     b.ends[v] = e;
                 }

@@ -3,8 +3,8 @@
 //
 // A variable v is bound to the words starts[v]..ends[v] of the subject, the words from the rewritten place on. One that the left side has
 // not is bound to no words: no right side of an accepted program has such a variable.
+use numbers::size_of_word;
 use rules::matching::is_var;
-use rules::matching::word;
 use words::slices::copy_into;
 use words::slices::put;
 ghost use mathlib.Core.Path.{_≡_};
@@ -33,7 +33,7 @@ fn shown_by(w: u16, starts: &[usize; 8], ends: &[usize; 8]) -> Shown
     ensures { λ r. ⌜ r ≡ shownBy (now (starts .entry)) (now (ends .entry)) w ⌝ }
 {
     if is_var(w) {
-        let v = word(w - 64);
+        let v = size_of_word(w - 64);
         let a = starts[v];
         let e = ends[v];
         return Shown::Bound(a, e);

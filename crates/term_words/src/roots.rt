@@ -1,4 +1,5 @@
 // The record at a term's root: its word, its parts, its exception.
+use numbers::word_of_byte;
 use record::record_at;
 ghost use mathlib.Core.Path.{_≡_};
 ghost use Prim.Native.Nat.{_<_};
@@ -12,13 +13,6 @@ pub struct Root {
     pub parts: u8,
     pub exception: u16,
     pub next: usize,
-}
-
-fn wide(b: u8) -> u16
-    ensures { λ r. ⌜ r ≡ b ⌝ }
-    ensures { λ r. ⌜ r < 256 ⌝ }
-{
-    b as u16
 }
 
 // The arity of function k; 0 where there is none.
@@ -103,5 +97,5 @@ pub fn root_at(arities: &[u8], bytes: &[u8], p: usize) -> Root
     if r.len == 1 {
         return plain_root(r.kind, next);
     }
-    long_root(arities, r.kind, wide(r.body), next)
+    long_root(arities, r.kind, word_of_byte(r.body), next)
 }

@@ -1,4 +1,5 @@
 // Terms one after the other: their words written, and counted.
+use numbers::size_of_byte;
 use super::roots::root_at;
 use generated::writing::put_words;
 ghost use mathlib.Core.Path.{_≡_};
@@ -101,12 +102,6 @@ fn word_count(exception: u16) -> usize
     2
 }
 
-fn wider(b: u8) -> usize
-    ensures { λ r. ⌜ r ≡ b ⌝ }
-{
-    b as usize
-}
-
 // The place past n terms, and how many words they are: record by record, with the number of terms still owed.
 pub fn size_of(arities: &[u8], bytes: &[u8], p: usize, n: u8) -> Ends
     requires { ⌜ (p ≤ length (now bytes)) × Whole (from (now arities) (now bytes) p) n ⌝ }
@@ -114,13 +109,13 @@ pub fn size_of(arities: &[u8], bytes: &[u8], p: usize, n: u8) -> Ends
     ensures { λ r. ⌜ Passed (now (arities .entry)) (now (bytes .entry)) p n (r .from) ⌝ }
     ensures { λ r. ⌜ r .to ≡ countOf (from (now (arities .entry)) (now (bytes .entry)) p) n ⌝ }
 {
-    let mut owed = wider(n);
+    let mut owed = size_of_byte(n);
     let mut next = p;
     let mut count = 0;
     while 0 < owed {
         let root = root_at(arities, bytes, next);
         count += word_count(root.exception);
-        owed = owed - 1 + wider(root.parts);
+        owed = owed - 1 + size_of_byte(root.parts);
         next = root.next;
     }
     Ends {

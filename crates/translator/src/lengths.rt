@@ -1,7 +1,8 @@
 // How many words a program's rules are, before they are written.
+use numbers::size_of_word;
+use numbers::word_of_byte;
 use super::rules::arity_of;
 use super::rules::rule_sizes;
-use super::rules::wide;
 ghost use mathlib.Core.Path.{_≡_};
 ghost use Prim.Native.Nat.{_+_, _*_, _≤_};
 ghost use lib.ListN.{length, getD};
@@ -11,19 +12,13 @@ ghost use Rattle.translator.specs.List.{rulesFor, ownIn};
 ghost use Rattle.theory.specs.Words.{storedRules};
 ghost use Rattle.theory.specs.Translation.{gather, numbers, exnRules};
 
-fn wider(n: u16) -> usize
-    ensures { λ r. ⌜ r ≡ n ⌝ }
-{
-    n as usize
-}
-
 // The rules of n exceptions.
 fn exception_length(n: u16) -> usize
     requires { ⌜ n ≤ 16 ⌝ }
     ensures { λ r. ⌜ r ≡ length (storedRules (exnRules n)) ⌝ }
     ensures { λ r. ⌜ r ≤ 3000 ⌝ }
 {
-    let k = wider(n);
+    let k = size_of_word(n);
     17 * k + 10 * k * k
 }
 
@@ -35,7 +30,7 @@ fn rule_length(arities: &[u8], program: &[u8], p: usize, f: u8, n: u8) -> usize
 {
     if program[p + 1] == f {
         let s = rule_sizes(arities, program, p, n);
-        return 2 + wider(s.left) + wider(s.right);
+        return 2 + size_of_word(s.left) + size_of_word(s.right);
     }
     0
 }
@@ -63,7 +58,7 @@ fn function_length(arities: &[u8], program: &[u8], openings: &[usize], f: u8) ->
     ensures { λ r. ⌜ r ≤ 128200 ⌝ }
 {
     let arity = arity_of(arities, f);
-    let n = wider(wide(arity));
+    let n = size_of_word(word_of_byte(arity));
     2 * n + 4 + n * (2 * n + 7) + own_rules_length(arities, program, openings, f, arity)
 }
 

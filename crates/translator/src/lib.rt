@@ -3,6 +3,8 @@ mod lengths;
 mod rules;
 
 use lengths::list_length;
+use numbers::byte_of_size;
+use numbers::word_of_size;
 use rules::put_list;
 ghost use mathlib.Core.Path.{_≡_};
 ghost use Prim.Native.Nat.{_≤_, _<_};
@@ -15,20 +17,6 @@ ghost use Rattle.translator.specs.Answered.{answered, filled};
 pub enum Own {
     Count(usize),
     Short,
-}
-
-fn narrow(n: usize) -> u16
-    requires { ⌜ n < 65536 ⌝ }
-    ensures { λ r. ⌜ r ≡ n ⌝ }
-{
-    n as u16
-}
-
-fn byte(n: usize) -> u8
-    requires { ⌜ n < 256 ⌝ }
-    ensures { λ r. ⌜ r ≡ n ⌝ }
-{
-    n as u8
 }
 
 // How many words an accepted program's own list is.
@@ -46,8 +34,8 @@ pub fn own_length(
         arities,
         program,
         openings,
-        narrow(exceptions),
-        byte(functions),
+        word_of_size(exceptions),
+        byte_of_size(functions),
     )
 }
 
@@ -64,8 +52,8 @@ pub fn own_list(
     ensures { λ r. ⌜ OfOwnList (now (program .entry)) (λ ws. r ≡ answered ws (now (dst .entry))) ⌝ }
     ensures { λ _. ⌜ OfOwnList (now (program .entry)) (λ ws. now (dst .exit) ≡ filled ws (now (dst .entry))) ⌝ }
 {
-    let n = narrow(exceptions);
-    let m = byte(functions);
+    let n = word_of_size(exceptions);
+    let m = byte_of_size(functions);
     let size = list_length(arities, program, openings, n, m);
     if dst.len() < size {
         return Own::Short;

@@ -3,6 +3,8 @@ use generated::exceptions::exception_rules;
 use generated::functions::call_rules;
 use generated::functions::symbol;
 use generated::writing::put_words;
+use numbers::word_of_byte;
+use numbers::word_of_size;
 use term_words::roots::arity;
 use term_words::terms::size_of;
 use term_words::terms::term_words;
@@ -25,19 +27,6 @@ pub struct Sizes {
     pub middle: usize,
 }
 
-fn narrow(n: usize) -> u16
-    requires { ⌜ n < 65536 ⌝ }
-    ensures { λ r. ⌜ r ≡ n ⌝ }
-{
-    n as u16
-}
-
-pub fn wide(b: u8) -> u16
-    ensures { λ r. ⌜ r ≡ b ⌝ }
-{
-    b as u16
-}
-
 // The sizes of the rule at p, whose function has n arguments.
 pub fn rule_sizes(arities: &[u8], program: &[u8], p: usize, n: u8) -> Sizes
     requires { ⌜ Opened (now arities) (now program) p n ⌝ }
@@ -47,8 +36,8 @@ pub fn rule_sizes(arities: &[u8], program: &[u8], p: usize, n: u8) -> Sizes
     let middle = left.from;
     let right = size_of(arities, program, middle, 1);
     Sizes {
-        left: narrow(left.to) + 1,
-        right: narrow(right.to),
+        left: word_of_size(left.to) + 1,
+        right: word_of_size(right.to),
         middle,
     }
 }
@@ -69,7 +58,7 @@ fn put_rule(
     requires { ⌜ Room (storedRule (ruleAt (now arities) (now program) p k n)) at (now dst) ⌝ }
     ensures { λ r. ⌜ Wrote (storedRule (ruleAt (now (arities .entry)) (now (program .entry)) p k n)) at (now (dst .entry)) (now (dst .exit)) r ⌝ }
 {
-    let head = [s.left, s.right, symbol(k, wide(n) + 1)];
+    let head = [s.left, s.right, symbol(k, word_of_byte(n) + 1)];
     let middle = s.middle;
     let first = put_words(dst, at, &head);
     let args = terms_words(arities, program, p + 2, n, dst, first);
@@ -94,7 +83,7 @@ fn put_rule_if(
 {
     if program[p + 1] == f {
         let s = rule_sizes(arities, program, p, n);
-        return put_rule(arities, program, p, s, 16 + wide(f), n, dst, at);
+        return put_rule(arities, program, p, s, 16 + word_of_byte(f), n, dst, at);
     }
     at
 }
@@ -103,7 +92,7 @@ fn put_rule_if(
 pub fn arity_of(arities: &[u8], f: u8) -> u8
     ensures { λ r. ⌜ r ≡ getD (now (arities .entry)) (16 + f) 0 ⌝ }
 {
-    arity(arities, 16 + wide(f))
+    arity(arities, 16 + word_of_byte(f))
 }
 
 // The program's rules of function f, which has n arguments, in program order.
@@ -143,9 +132,9 @@ fn function_rules(
     requires { ⌜ Room (storedRules (rulesFor (now arities) (now program) f)) at (now dst) ⌝ }
     ensures { λ r. ⌜ Wrote (storedRules (rulesFor (now (arities .entry)) (now (program .entry)) f)) at (now (dst .entry)) (now (dst .exit)) r ⌝ }
 {
-    let k = 16 + wide(f);
+    let k = 16 + word_of_byte(f);
     let arity = arity_of(arities, f);
-    let n = wide(arity);
+    let n = word_of_byte(arity);
     let guarded = call_rules(dst, at, k, n);
     own_rules(arities, program, openings, f, arity, dst, guarded)
 }

@@ -32,8 +32,8 @@ returns-2 c =
     let s = j .before .before .before .before .before .before .before .before .before in
     rewrite-barred a _ _ (s .args .own .now) (s .args .first .now) (s .args .second .now) _ (sym (c .before .before .allowed .ensures) ∙ not-true _ (c .before .if2 .taken)) (c .refused .ensures)
 
-size-requires : tie.Need-size-requires
-size-requires c κs = search needs
+size-of-u32-requires : tie.Need-size-of-u32-requires
+size-of-u32-requires c κs = search needs
 
 refused-requires-2 : tie.Need-refused-requires-2
 refused-requires-2 c κs = search needs
@@ -43,7 +43,7 @@ returns-3 c =
     let j = c .before .before .before .before .before in
     let a = accepted _ _ _ (j .before .before .before .judge .ensures) (j .if1 .left) in
     let s = j .before .before .before .before .before .before .before .before .before in
-    rewrite-first-short a _ _ (s .args .own .now) (s .args .first .now) (s .args .second .now) _ (sym (c .before .before .before .before .allowed .ensures) ∙ not-false _ (c .before .before .before .if2 .left)) (omega (arith, c .before .if3 .taken, c .before .before .size .ensures)) (c .refused2 .ensures)
+    rewrite-first-short a _ _ (s .args .own .now) (s .args .first .now) (s .args .second .now) _ (sym (c .before .before .before .before .allowed .ensures) ∙ not-false _ (c .before .before .before .if2 .left)) (omega (arith, c .before .if3 .taken, c .before .before .size-of-u32 .ensures .0)) (c .refused2 .ensures)
 
 refused-requires-3 : tie.Need-refused-requires-3
 refused-requires-3 c κs = search needs
@@ -53,14 +53,14 @@ returns-4 c =
     let j = c .before .before .before .before .before .before in
     let a = accepted _ _ _ (j .before .before .before .judge .ensures) (j .if1 .left) in
     let s = j .before .before .before .before .before .before .before .before .before in
-    rewrite-second-short a _ _ (s .args .own .now) (s .args .first .now) (s .args .second .now) _ (sym (c .before .before .before .before .before .allowed .ensures) ∙ not-false _ (c .before .before .before .before .if2 .left)) (omega (arith, c .before .if4 .taken, c .before .before .before .size .ensures)) (c .refused3 .ensures)
+    rewrite-second-short a _ _ (s .args .own .now) (s .args .first .now) (s .args .second .now) _ (sym (c .before .before .before .before .before .allowed .ensures) ∙ not-false _ (c .before .before .before .before .if2 .left)) (omega (arith, c .before .if4 .taken, c .before .before .before .size-of-u32 .ensures .0)) (c .refused3 .ensures)
 
 rewrite-lent-requires : tie.Need-rewrite-lent-requires
 rewrite-lent-requires c κs =
     let k = c .before .before .before .before .before .before in
     let j = k .before .before .before in
     let w = within-allowances _ _ _ (sym (k .before .before .allowed .ensures) ∙ not-false _ (k .before .if2 .left)) in
-    let n = k .size .ensures in
+    let n = k .size-of-u32 .ensures .0 in
     (accepted _ _ _ (j .before .before .before .judge .ensures) (j .if1 .left), (w .0, w .1, w .2, omega (arith, n, c .before .before .before .before .before .if3 .left), omega (arith, n, c .before .before .before .before .if4 .left)))
 
 same-length : tie.Need-same-length
@@ -84,7 +84,7 @@ rewrite-spec =
     allowed-requires
     refused-requires
     returns-2
-    size-requires
+    size-of-u32-requires
     refused-requires-2
     returns-3
     refused-requires-3

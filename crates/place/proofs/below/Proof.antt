@@ -23,14 +23,14 @@ returns c = sym (below-none _ _ _ _ (subst (λ (i : ℕ). i < 1) (c .before .act
 arity-requires : tie.Need-arity-requires
 arity-requires c κs = search needs
 
-wide-requires : tie.Need-wide-requires
-wide-requires c κs = search needs
+word-of-byte-requires : tie.Need-word-of-byte-requires
+word-of-byte-requires c κs = search needs
 
 returns-2 : tie.Need-returns-2
 returns-2 c =
     let e = c .before .before .before in
     let i = e .before .active-part .ensures in
-    sym (below-few _ _ _ _ (subst (λ (i : ℕ). 1 ≤ i) i (e .if1 .left)) (subst₂ (λ (n i : ℕ). n < i) (c .before .wide .ensures ∙ c .before .before .arity .ensures) i (c .if2 .taken)))
+    sym (below-few _ _ _ _ (subst (λ (i : ℕ). 1 ≤ i) i (e .if1 .left)) (subst₂ (λ (n i : ℕ). n < i) (c .before .word-of-byte .ensures .0 ∙ c .before .before .arity .ensures) i (c .if2 .taken)))
 
 add-skip-many : tie.Need-add-skip-many
 add-skip-many c = search needs
@@ -46,7 +46,7 @@ returns-3 c =
     let a = e .before .before .before .before .before .args in
     c .skip-many .ensures
     ∙ ap (λ (i : ℕ). past (arityOf (a .arities .now)) (drop (a .at + 1) (a .term .now)) (i - 1) (a .at + 1)) i
-    ∙ sym (below-past _ _ _ _ (subst (λ (i : ℕ). 1 ≤ i) i (e .if1 .left)) (subst₂ (λ (n i : ℕ). i ≤ n) (d .before .wide .ensures ∙ d .before .before .arity .ensures) i (d .if2 .left)))
+    ∙ sym (below-past _ _ _ _ (subst (λ (i : ℕ). 1 ≤ i) i (e .if1 .left)) (subst₂ (λ (n i : ℕ). i ≤ n) (d .before .word-of-byte .ensures .0 ∙ d .before .before .arity .ensures) i (d .if2 .left)))
 
 pub below-spec : {M : Type 1} → statement M
 below-spec =
@@ -57,7 +57,7 @@ below-spec =
     active-part-requires
     returns
     arity-requires
-    wide-requires
+    word-of-byte-requires
     returns-2
     add-skip-many
     skip-many-requires

@@ -13,18 +13,18 @@ use Rattle.splice.proofs.shown_by.Tie as tie
 is-var-requires : tie.Need-is-var-requires
 is-var-requires c κs = search needs
 
-sub-word : tie.Need-sub-word
-sub-word c = isVar-slot _ (sym (c .before .is-var .ensures) ∙ c .if1 .taken) .0
+sub-size-of-word : tie.Need-sub-size-of-word
+sub-size-of-word c = isVar-slot _ (sym (c .before .is-var .ensures) ∙ c .if1 .taken) .0
 
-word-requires : tie.Need-word-requires
-word-requires c κs = search needs
+size-of-word-requires : tie.Need-size-of-word-requires
+size-of-word-requires c κs = search needs
 
 mul-a : tie.Need-mul-a
 mul-a c = search needs
 
 element-copy-out-a : tie.Need-element-copy-out-a
 element-copy-out-a c =
-    omega (arith, c .word .ensures .0, isVar-slot (c .before .before .before .args .w) (sym (c .before .before .is-var .ensures) ∙ c .before .if1 .taken))
+    omega (arith, c .size-of-word .ensures .0, isVar-slot (c .before .before .before .args .w) (sym (c .before .before .is-var .ensures) ∙ c .before .if1 .taken))
 
 mul-e : tie.Need-mul-e
 mul-e c = search needs
@@ -32,13 +32,13 @@ mul-e c = search needs
 element-copy-out-e : tie.Need-element-copy-out-e
 element-copy-out-e c =
     let d = c .before in
-    omega (arith, d .word .ensures .0, isVar-slot (d .before .before .before .args .w) (sym (d .before .before .is-var .ensures) ∙ d .before .if1 .taken))
+    omega (arith, d .size-of-word .ensures .0, isVar-slot (d .before .before .before .args .w) (sym (d .before .before .is-var .ensures) ∙ d .before .if1 .taken))
 
 returns : tie.Need-returns
 returns c =
     let d = c .before .before in
     let a = d .before .before .before .args in
-    let v = d .word .ensures .0 in
+    let v = d .size-of-word .ensures .0 in
     ap₂ Bound (ap (λ (i : ℕ). getD (a .starts .now) i 0) v) (ap (λ (i : ℕ). getD (a .ends .now) i 0) v)
     ∙ shows-part (a .starts .now) (a .ends .now) (a .w) (sym (d .before .before .is-var .ensures) ∙ d .before .if1 .taken)
 
@@ -52,8 +52,8 @@ shown-by-spec =
     tie.close
     (tie.spec
     is-var-requires
-    sub-word
-    word-requires
+    sub-size-of-word
+    size-of-word-requires
     mul-a
     element-copy-out-a
     mul-e

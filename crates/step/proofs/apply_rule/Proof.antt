@@ -16,17 +16,17 @@ returns c =
     let a = c .before .before .before .before .before .args in
     nothing (a .room) (ruled (a .arities .now) (a .rule .now) (a .term .now) (a .p)) (a .second .now) (ruled-short (a .arities .now) (a .rule .now) (a .term .now) (a .p) (c .if1 .taken))
 
-shared-slice-read-word : tie.Need-shared-slice-read-word
-shared-slice-read-word c = search needs
+shared-slice-read-size-of-word : tie.Need-shared-slice-read-size-of-word
+shared-slice-read-size-of-word c = search needs
 
-word-requires : tie.Need-word-requires
-word-requires c κs = search needs
+size-of-word-requires : tie.Need-size-of-word-requires
+size-of-word-requires c κs = search needs
 
-shared-slice-read-word-2 : tie.Need-shared-slice-read-word-2
-shared-slice-read-word-2 c = search needs
+shared-slice-read-size-of-word-2 : tie.Need-shared-slice-read-size-of-word-2
+shared-slice-read-size-of-word-2 c = search needs
 
-word-requires-2 : tie.Need-word-requires-2
-word-requires-2 c κs = search needs
+size-of-word-requires-2 : tie.Need-size-of-word-requires-2
+size-of-word-requires-2 c κs = search needs
 
 add-from : tie.Need-add-from
 add-from c = search needs
@@ -41,7 +41,7 @@ returns-2 c =
     let s = w1 .before .before in
     let a = s .before .before .before .before .before .args in
     nothing (a .room) (ruled (a .arities .now) (a .rule .now) (a .term .now) (a .p)) (a .second .now)
-    (ruled-cut (a .arities .now) (a .rule .now) (a .term .now) (a .p) (s .if1 .left) (w1 .word .result) (w2 .word2 .result) (w1 .word .ensures .0) (w2 .word2 .ensures .0) (c .if2 .taken))
+    (ruled-cut (a .arities .now) (a .rule .now) (a .term .now) (a .p) (s .if1 .left) (w1 .size-of-word .result) (w2 .size-of-word2 .result) (w1 .size-of-word .ensures .0) (w2 .size-of-word2 .ensures .0) (c .if2 .taken))
 
 sub-bind : tie.Need-sub-bind
 sub-bind c = search needs
@@ -86,12 +86,12 @@ left-end-requires c κs =
     let s = e1 .before .before .before .before .before in
     let a = s .args in
     let pre = s .pre in
-    let l = w1 .word .result in
-    let r = w2 .word2 .result in
+    let l = w1 .size-of-word .result in
+    let r = w2 .size-of-word2 .result in
     let n : length (take (length (a .term .now) - a .p) (drop (a .p) (a .term .now))) ≡ length (a .term .now) - a .p = simp (length-take, length-drop) (omega arith) in
     let inside = bound-inside (a .arities .now) (take (length (a .term .now) - a .p) (drop (a .p) (a .term .now))) (take (2 + l - 2) (drop 2 (a .rule .now))) (b .bind .result) (length (a .term .now) - a .p) (b .bind .ensures) n in (
       within-more (b .bind .result .ends) (length (a .term .now) - a .p) (length (a .term .now)) inside (omega arith),
-      (simp (length-take, length-drop) (omega (arith, w1 .word .ensures .1)), omega (arith, pre)),
+      (simp (length-take, length-drop) (omega (arith, w1 .size-of-word .ensures .1)), omega (arith, pre)),
     )
 
 add-e : tie.Need-add-e
@@ -108,9 +108,9 @@ returns-3 c =
     let s = e1 .before .before .before .before .before in
     let a = s .args in
     let pre = s .pre in
-    let l = w1 .word .result in
-    let r = w2 .word2 .result in
-    nothing (a .room) (ruled (a .arities .now) (a .rule .now) (a .term .now) (a .p)) (a .second .now) (ruled-over (a .arities .now) (a .rule .now) (a .term .now) (a .p) (e1 .if1 .left) l r (w1 .word .ensures .0) (w2 .word2 .ensures .0) (d .if2 .left) (b .bind .result) (b .bind .ensures) (le .left-end .result) (le .left-end .ensures .0) (c .if3 .taken))
+    let l = w1 .size-of-word .result in
+    let r = w2 .size-of-word2 .result in
+    nothing (a .room) (ruled (a .arities .now) (a .rule .now) (a .term .now) (a .p)) (a .second .now) (ruled-over (a .arities .now) (a .rule .now) (a .term .now) (a .p) (e1 .if1 .left) l r (w1 .size-of-word .ensures .0) (w2 .size-of-word2 .ensures .0) (d .if2 .left) (b .bind .result) (b .bind .ensures) (le .left-end .result) (le .left-end .ensures .0) (c .if3 .taken))
 
 mul-step-into : tie.Need-mul-step-into
 mul-step-into c = search needs
@@ -136,13 +136,13 @@ step-into-requires c κs =
     let s = e1 .before .before .before .before .before in
     let a = s .args in
     let pre = s .pre in
-    let l = w1 .word .result in
-    let r = w2 .word2 .result in
+    let l = w1 .size-of-word .result in
+    let r = w2 .size-of-word2 .result in
     let ordered = bound-ordered (a .arities .now) (take (length (a .term .now) - a .p) (drop (a .p) (a .term .now))) (take (2 + l - 2) (drop 2 (a .rule .now))) (b .bind .result) (b .bind .ensures) in
     let n : length (take (length (a .term .now) - a .p) (drop (a .p) (a .term .now))) ≡ length (a .term .now) - a .p = simp (length-take, length-drop) (omega arith) in
     let inside = bound-inside (a .arities .now) (take (length (a .term .now) - a .p) (drop (a .p) (a .term .now))) (take (2 + l - 2) (drop 2 (a .rule .now))) (b .bind .result) (length (a .term .now) - a .p) (b .bind .ensures) n in (
       omega (arith, pre, i3 .if3 .left),
-      (record { within = inside; ordered = ordered }, (simp (length-take, length-drop) (omega (arith, w2 .word2 .ensures .1)), omega (arith, pre))),
+      (record { within = inside; ordered = ordered }, (simp (length-take, length-drop) (omega (arith, w2 .size-of-word2 .ensures .1)), omega (arith, pre))),
     )
 
 made-by-requires : tie.Need-made-by-requires
@@ -164,12 +164,12 @@ returns-4 c =
     let s = e1 .before .before .before .before .before in
     let a = s .args in
     let pre = s .pre in
-    let l = w1 .word .result in
-    let r = w2 .word2 .result in
+    let l = w1 .size-of-word .result in
+    let r = w2 .size-of-word2 .result in
     answered (a .room) (ruled (a .arities .now) (a .rule .now) (a .term .now) (a .p))
     (stepOf (a .term .now) (a .p) (a .p + le .left-end .result) (take (2 + l + r - (2 + l)) (drop (2 + l) (a .rule .now))) (b .bind .result .starts) (b .bind .result .ends)) (a .second .now)
     (made .step-into .last .1 .1 .1 .1 .1 .1 .0) (made .step-into .result) (c .made-by .result)
-    (ruled-is (a .arities .now) (a .rule .now) (a .term .now) (a .p) (e1 .if1 .left) l r (w1 .word .ensures .0) (w2 .word2 .ensures .0) (d .if2 .left) (b .bind .result) (b .bind .ensures) (le .left-end .result) (le .left-end .ensures .0) (i3 .if3 .left))
+    (ruled-is (a .arities .now) (a .rule .now) (a .term .now) (a .p) (e1 .if1 .left) l r (w1 .size-of-word .ensures .0) (w2 .size-of-word2 .ensures .0) (d .if2 .left) (b .bind .result) (b .bind .ensures) (le .left-end .result) (le .left-end .ensures .0) (i3 .if3 .left))
     (c .made-by .ensures) (made .step-into .ensures .0) (made .step-into .ensures .1)
 
 pub apply-rule-spec : {M : Type 1} → statement M
@@ -177,10 +177,10 @@ apply-rule-spec =
     tie.close
     (tie.spec
     returns
-    shared-slice-read-word
-    word-requires
-    shared-slice-read-word-2
-    word-requires-2
+    shared-slice-read-size-of-word
+    size-of-word-requires
+    shared-slice-read-size-of-word-2
+    size-of-word-requires-2
     add-from
     add-to
     returns-2

@@ -12,24 +12,24 @@ use Rattle.step.proofs.past_word.Tie as tie
 is-var-requires : tie.Need-is-var-requires
 is-var-requires c κs = search needs
 
-sub-word : tie.Need-sub-word
-sub-word c = isVar-slot _ (sym (c .before .is-var .ensures) ∙ c .if1 .taken) .0
+sub-size-of-word : tie.Need-sub-size-of-word
+sub-size-of-word c = isVar-slot _ (sym (c .before .is-var .ensures) ∙ c .if1 .taken) .0
 
-word-requires : tie.Need-word-requires
-word-requires c κs = search needs
+size-of-word-requires : tie.Need-size-of-word-requires
+size-of-word-requires c κs = search needs
 
 mul-result : tie.Need-mul-result
 mul-result c = search needs
 
 element-copy-out-result : tie.Need-element-copy-out-result
 element-copy-out-result c =
-    omega (arith, c .word .ensures .0, isVar-slot (c .before .before .before .args .w) (sym (c .before .before .is-var .ensures) ∙ c .before .if1 .taken))
+    omega (arith, c .size-of-word .ensures .0, isVar-slot (c .before .before .before .args .w) (sym (c .before .before .is-var .ensures) ∙ c .before .if1 .taken))
 
 returns : tie.Need-returns
 returns c =
     let d = c .before in
     let a = d .before .before .before .args in
-    ap (λ (i : ℕ). getD (a .ends .now) i 0) (d .word .ensures .0) ∙ past-var (a .ends .now) (a .w) (a .j) (sym (d .before .before .is-var .ensures) ∙ d .before .if1 .taken)
+    ap (λ (i : ℕ). getD (a .ends .now) i 0) (d .size-of-word .ensures .0) ∙ past-var (a .ends .now) (a .w) (a .j) (sym (d .before .before .is-var .ensures) ∙ d .before .if1 .taken)
 
 add-result : tie.Need-add-result
 add-result c = search needs
@@ -44,8 +44,8 @@ past-word-spec =
     tie.close
     (tie.spec
     is-var-requires
-    sub-word
-    word-requires
+    sub-size-of-word
+    size-of-word-requires
     mul-result
     element-copy-out-result
     returns

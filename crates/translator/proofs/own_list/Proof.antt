@@ -31,20 +31,20 @@ ready : (c : tie.Start) → let a = c .args in Ready (a .arities .now) (a .progr
 ready c = let a = c .args in accepted-ready (a .arities .now) (a .program .now) (a .openings .now) (a .exceptions) (a .functions) (c .pre)
 
 -- and with the narrowed numbers
-held : (c : tie.After-byte) → let a = c .before .before .before .before .before .before .args in Ready (a .arities .now) (a .program .now) (a .openings .now) (c .before .narrow .result) (c .byte .result)
+held : (c : tie.After-byte) → let a = c .before .before .before .before .before .before .args in Ready (a .arities .now) (a .program .now) (a .openings .now) (c .before .word-of-size .result) (c .byte-of-size .result)
 held c =
     let at = c .before .before .before .before .before .before in
     let a = at .args in
-    ready-as (a .arities .now) (a .program .now) (a .openings .now) (a .exceptions) (a .functions) (c .before .narrow .result) (c .byte .result) (at .pre) (c .before .narrow .ensures) (c .byte .ensures)
+    ready-as (a .arities .now) (a .program .now) (a .openings .now) (a .exceptions) (a .functions) (c .before .word-of-size .result) (c .byte-of-size .result) (at .pre) (c .before .word-of-size .ensures) (c .byte-of-size .ensures)
 
 abbrev list : (c : tie.After-byte) → List ℕ
-list c = let a = c .before .before .before .before .before .before .args in storedRules (ownIn (a .arities .now) (a .program .now) (c .before .narrow .result) (c .byte .result))
+list c = let a = c .before .before .before .before .before .before .args in storedRules (ownIn (a .arities .now) (a .program .now) (c .before .word-of-size .result) (c .byte-of-size .result))
 
-narrow-requires : tie.Need-narrow-requires
-narrow-requires c κs = omega (arith, ready (c .before .before .before .before) .few)
+word-of-size-requires : tie.Need-word-of-size-requires
+word-of-size-requires c κs = omega (arith, ready (c .before .before .before .before) .few)
 
-byte-requires : tie.Need-byte-requires
-byte-requires c κs = omega (arith, ready (c .before .before .before .before .before) .functions)
+byte-of-size-requires : tie.Need-byte-of-size-requires
+byte-of-size-requires c κs = omega (arith, ready (c .before .before .before .before .before) .functions)
 
 list-length-requires : tie.Need-list-length-requires
 list-length-requires c κs = (held c .listed, held c .small, held c .few)
@@ -85,4 +85,4 @@ returns-2 c =
     )
 
 pub own-list-spec : {M : Type 1} → statement M
-own-list-spec = tie.close (tie.spec narrow-requires byte-requires list-length-requires returns put-list-requires same-length returns-2)
+own-list-spec = tie.close (tie.spec word-of-size-requires byte-of-size-requires list-length-requires returns put-list-requires same-length returns-2)

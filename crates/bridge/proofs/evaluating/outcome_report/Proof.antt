@@ -19,8 +19,8 @@ ended-requires c κs = search needs
 enum-known-end-2 : tie.Need-enum-known-end-2
 enum-known-end-2 c = search needs
 
-of-word-requires : tie.Need-of-word-requires
-of-word-requires c κs = search needs
+u32-of-word-requires : tie.Need-u32-of-word-requires
+u32-of-word-requires c κs = search needs
 
 ended-requires-2 : tie.Need-ended-requires-2
 ended-requires-2 c κs = search needs
@@ -51,7 +51,7 @@ returns c =
 returns-2 : tie.Need-returns-2
 returns-2 c =
     let k = c .before .before .before in
-    outcome-by (k .before .before .args .outcome) (Raised _) _ (k .end2 .given .1) (ending-with _ _ _ _ _ _ _ (c .ended2 .ensures) (c .before .of-word .ensures) refl)
+    outcome-by (k .before .before .args .outcome) (Raised _) _ (k .end2 .given .1) (ending-with _ _ _ _ _ _ _ (c .ended2 .ensures) (c .before .u32-of-word .ensures .0) refl)
 
 returns-3 : tie.Need-returns-3
 returns-3 c =
@@ -72,7 +72,7 @@ outcome-report-spec =
     word-base-requires
     ended-requires
     enum-known-end-2
-    of-word-requires
+    u32-of-word-requires
     ended-requires-2
     enum-known-end-3
     ended-requires-3

@@ -16,8 +16,8 @@ slice-aggregate-evaluate c = search needs
 slice-aggregate-evaluate-2 : tie.Need-slice-aggregate-evaluate-2
 slice-aggregate-evaluate-2 c = search needs
 
-size-requires : tie.Need-size-requires
-size-requires c κs = search needs
+size-of-u32-requires : tie.Need-size-of-u32-requires
+size-of-u32-requires c κs = search needs
 
 evaluate-requires : tie.Need-evaluate-requires
 evaluate-requires c κs = search needs
@@ -28,7 +28,7 @@ outcome-report-requires c κs = search needs
 returns : tie.Need-returns
 returns c =
     let k = c .before .before .before .before .before in
-    λ l. evaluator-answers l _ _ _ _ _ _ _ (k .before .index-of .ensures) (k .index-of2 .ensures) (c .before .before .size .ensures) (c .before .evaluate .ensures) (c .outcome-report .ensures)
+    λ l. evaluator-answers l _ _ _ _ _ _ _ (k .before .index-of .ensures) (k .index-of2 .ensures) (c .before .before .size-of-u32 .ensures .0) (c .before .evaluate .ensures) (c .outcome-report .ensures)
 
 pub run-evaluator-spec : {M : Type 1} → statement M
 run-evaluator-spec =
@@ -38,7 +38,7 @@ run-evaluator-spec =
     index-of-requires-2
     slice-aggregate-evaluate
     slice-aggregate-evaluate-2
-    size-requires
+    size-of-u32-requires
     evaluate-requires
     outcome-report-requires
     returns)

@@ -10,17 +10,17 @@ refused-requires c κs = search needs
 returns : tie.Need-returns
 returns c = by-none _ _ _ _ (c .before .if1 .taken) (c .refused .ensures)
 
-of-byte-requires : tie.Need-of-byte-requires
-of-byte-requires c κs = search needs
+u32-of-byte-requires : tie.Need-u32-of-byte-requires
+u32-of-byte-requires c κs = search needs
 
-of-size-requires : tie.Need-of-size-requires
-of-size-requires c κs = search needs
+u32-of-size-requires : tie.Need-u32-of-size-requires
+u32-of-size-requires c κs = search needs
 
 refused-requires-2 : tie.Need-refused-requires-2
 refused-requires-2 c κs = search needs
 
 returns-2 : tie.Need-returns-2
-returns-2 c = by-number _ _ _ _ _ _ (c .before .before .before .if1 .left) (c .before .before .of-byte .ensures) (c .before .of-size .ensures) (c .refused2 .ensures)
+returns-2 c = by-number _ _ _ _ _ _ (c .before .before .before .if1 .left) (c .before .before .u32-of-byte .ensures .0) (c .before .u32-of-size .ensures) (c .refused2 .ensures)
 
 pub refusal-by-spec : {M : Type 1} → statement M
 refusal-by-spec =
@@ -28,7 +28,7 @@ refusal-by-spec =
     (tie.spec
     refused-requires
     returns
-    of-byte-requires
-    of-size-requires
+    u32-of-byte-requires
+    u32-of-size-requires
     refused-requires-2
     returns-2)

@@ -20,11 +20,11 @@ slice-aggregate-rewrite c = search needs
 slice-aggregate-rewrite-2 : tie.Need-slice-aggregate-rewrite-2
 slice-aggregate-rewrite-2 c = search needs
 
-size-requires : tie.Need-size-requires
-size-requires c κs = search needs
+size-of-u32-requires : tie.Need-size-of-u32-requires
+size-of-u32-requires c κs = search needs
 
-size-requires-2 : tie.Need-size-requires-2
-size-requires-2 c κs = search needs
+size-of-u32-requires-2 : tie.Need-size-of-u32-requires-2
+size-of-u32-requires-2 c κs = search needs
 
 rewrite-requires : tie.Need-rewrite-requires
 rewrite-requires c κs = search needs
@@ -34,7 +34,7 @@ answer-report-requires c κs =
     let k = c .before .before .before .before in
     let i = c .before .before .before .before .before .before .before .before .before .before .before in
     let s = i .before .before .before .before .before .before .before .before in
-    answer-fits (s .pre .0) _ _ (i .before .index-of .ensures) (i .index-of2 .ensures) _ _ _ _ (k .before .size2 .ensures) (k .before .before .size .ensures) _ _ _ (k .rewrite .ensures .0) (k .rewrite .ensures .1 .0)
+    answer-fits (s .pre .0) _ _ (i .before .index-of .ensures) (i .index-of2 .ensures) _ _ _ _ (k .before .size-of-u322 .ensures .0) (k .before .before .size-of-u32 .ensures .0) _ _ _ (k .rewrite .ensures .0) (k .rewrite .ensures .1 .0)
     (s .pre .1 .1) (s .pre .1 .0)
 
 same-length : tie.Need-same-length
@@ -48,8 +48,8 @@ returns c =
     let k = c .before .before .before .before .before in
     let i = c .before .before .before .before .before .before .before .before .before .before .before .before in
     let s = i .before .before .before .before .before .before .before .before in
-    let er = k .before .size2 .ensures in
-    let en = k .before .before .size .ensures in
+    let er = k .before .size-of-u322 .ensures .0 in
+    let en = k .before .before .size-of-u32 .ensures .0 in
     let e = k .rewrite .ensures in (
       λ l. rewriter-answers l _ _ (i .before .index-of .ensures) (i .index-of2 .ensures) _ _ _ _ er en _ _ _ (e .0) (e .1 .0) _ (c .answer-report .ensures),
       (
@@ -66,8 +66,8 @@ run-rewriter-spec =
     index-of-requires-2
     slice-aggregate-rewrite
     slice-aggregate-rewrite-2
-    size-requires
-    size-requires-2
+    size-of-u32-requires
+    size-of-u32-requires-2
     rewrite-requires
     answer-report-requires
     same-length

@@ -18,11 +18,11 @@ add-if3 c = search needs
 returns-3 : tie.Need-returns-3
 returns-3 c e = absurd (false≢true e)
 
-shared-slice-read-word : tie.Need-shared-slice-read-word
-shared-slice-read-word c = search needs
+shared-slice-read-size-of-word : tie.Need-shared-slice-read-size-of-word
+shared-slice-read-size-of-word c = search needs
 
-word-requires : tie.Need-word-requires
-word-requires c κs = search needs
+size-of-word-requires : tie.Need-size-of-word-requires
+size-of-word-requires c κs = search needs
 
 add-if4 : tie.Need-add-if4
 add-if4 c = search needs
@@ -47,7 +47,7 @@ returns-6 c e =
       few = omega (arith, long .before .before .if1 .left);
       high = omega (arith, long .before .if2 .left);
       long = omega (arith, long .if3 .left);
-      count = sym (count .before .word .ensures .0) ∙ count .if4 .left;
+      count = sym (count .before .size-of-word .ensures .0) ∙ count .if4 .left;
       root = c .before .if5 .left;
       all = c .are-vars .ensures e;
     }
@@ -60,8 +60,8 @@ is-call-spec =
     returns-2
     add-if3
     returns-3
-    shared-slice-read-word
-    word-requires
+    shared-slice-read-size-of-word
+    size-of-word-requires
     add-if4
     returns-4
     shared-slice-read-if5

@@ -51,8 +51,8 @@ shared-slice-read-x c = search needs
 returns-4 : tie.Need-returns-4
 returns-4 c e = absurd (false≢true e)
 
-word-requires : tie.Need-word-requires
-word-requires c κs = search needs
+size-of-word-requires : tie.Need-size-of-word-requires
+size-of-word-requires c κs = search needs
 
 returns-5 : tie.Need-returns-5
 returns-5 c e = absurd (false≢true e)
@@ -93,7 +93,7 @@ returns-8 c e =
       guard = guard .if2 .left;
       test = test .if3 .left;
       variable = omega (arith, variable .if4 .left);
-      bound = omega (arith, bound .before .word .ensures .0, bound .if5 .left);
+      bound = omega (arith, bound .before .size-of-word .ensures .0, bound .if5 .left);
       high = omega (arith, high .if6 .left);
       parts = sym (c .before .before .parts .ensures .0) ∙ c .before .if7 .left;
       all = c .are-vars .ensures e;
@@ -118,7 +118,7 @@ is-test-spec =
     mul-x
     shared-slice-read-x
     returns-4
-    word-requires
+    size-of-word-requires
     returns-5
     add-b
     mul-b

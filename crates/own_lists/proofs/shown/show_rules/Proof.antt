@@ -17,14 +17,14 @@ loop-holds c = search needs
 left-at-requires : tie.Need-left-at-requires Inv-loop μ-loop
 left-at-requires c κs = search needs
 
-mul-wide : tie.Need-mul-wide Inv-loop μ-loop
-mul-wide c = search needs
+mul-size-of-word : tie.Need-mul-size-of-word Inv-loop μ-loop
+mul-size-of-word c = search needs
 
-shared-slice-read-wide : tie.Need-shared-slice-read-wide Inv-loop μ-loop
-shared-slice-read-wide c = search needs
+shared-slice-read-size-of-word : tie.Need-shared-slice-read-size-of-word Inv-loop μ-loop
+shared-slice-read-size-of-word c = search needs
 
-wide-requires : tie.Need-wide-requires Inv-loop μ-loop
-wide-requires c κs = search needs
+size-of-word-requires : tie.Need-size-of-word-requires Inv-loop μ-loop
+size-of-word-requires c κs = search needs
 
 show-number-requires : tie.Need-show-number-requires Inv-loop μ-loop
 show-number-requires c κs = search needs
@@ -55,9 +55,9 @@ show-rules-spec =
     μ-loop
     loop-holds
     left-at-requires
-    mul-wide
-    shared-slice-read-wide
-    wide-requires
+    mul-size-of-word
+    shared-slice-read-size-of-word
+    size-of-word-requires
     show-number-requires
     behind-requires
     sub-left

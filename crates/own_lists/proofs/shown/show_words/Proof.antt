@@ -14,14 +14,14 @@ abbrev μ-loop : tie.MeasureT-loop
 loop-holds : tie.Need-loop-holds Inv-loop μ-loop
 loop-holds c = search needs
 
-mul-wide : tie.Need-mul-wide Inv-loop μ-loop
-mul-wide c = search needs
+mul-size-of-word : tie.Need-mul-size-of-word Inv-loop μ-loop
+mul-size-of-word c = search needs
 
-shared-slice-read-wide : tie.Need-shared-slice-read-wide Inv-loop μ-loop
-shared-slice-read-wide c = search needs
+shared-slice-read-size-of-word : tie.Need-shared-slice-read-size-of-word Inv-loop μ-loop
+shared-slice-read-size-of-word c = search needs
 
-wide-requires : tie.Need-wide-requires Inv-loop μ-loop
-wide-requires c κs = search needs
+size-of-word-requires : tie.Need-size-of-word-requires Inv-loop μ-loop
+size-of-word-requires c κs = search needs
 
 show-number-requires : tie.Need-show-number-requires Inv-loop μ-loop
 show-number-requires c κs = search needs
@@ -54,9 +54,9 @@ show-words-spec =
     Inv-loop
     μ-loop
     loop-holds
-    mul-wide
-    shared-slice-read-wide
-    wide-requires
+    mul-size-of-word
+    shared-slice-read-size-of-word
+    size-of-word-requires
     show-number-requires
     add-i
     sub-behind

@@ -17,14 +17,14 @@ abbrev μ-loop : tie.MeasureT-loop
 loop-holds : tie.Need-loop-holds Inv-loop μ-loop
 loop-holds c = refl
 
-mul-wide : tie.Need-mul-wide Inv-loop μ-loop
-mul-wide c = search needs
+mul-size-of-word : tie.Need-mul-size-of-word Inv-loop μ-loop
+mul-size-of-word c = search needs
 
-shared-slice-read-wide : tie.Need-shared-slice-read-wide Inv-loop μ-loop
-shared-slice-read-wide c = search needs
+shared-slice-read-size-of-word : tie.Need-shared-slice-read-size-of-word Inv-loop μ-loop
+shared-slice-read-size-of-word c = search needs
 
-wide-requires : tie.Need-wide-requires Inv-loop μ-loop
-wide-requires c κs = search needs
+size-of-word-requires : tie.Need-size-of-word-requires Inv-loop μ-loop
+size-of-word-requires c κs = search needs
 
 mixed-requires : tie.Need-mixed-requires Inv-loop μ-loop
 mixed-requires c κs = search needs
@@ -39,7 +39,7 @@ loop-again : tie.Need-loop-again Inv-loop μ-loop
 loop-again c =
     let g = c .before .before .before in
     let a = g .before .before .before .args in
-    mixed-next (a .own .now) (g .before .loop .i) (g .before .loop .sum) _ _ (g .loop-test .taken) (g .before .loop .inv) (c .before .wide .ensures .1) (c .mixed .ensures)
+    mixed-next (a .own .now) (g .before .loop .i) (g .before .loop .sum) _ _ (g .loop-test .taken) (g .before .loop .inv) (c .before .size-of-word .ensures .0) (c .mixed .ensures)
 
 returns : tie.Need-returns Inv-loop μ-loop
 returns c = sym (c .before .loop .inv ∙ sum-end (c .before .before .before .args .own .now) (c .before .loop .i) (c .before .loop .sum) (c .loop-test .left))
@@ -51,9 +51,9 @@ sum-of-spec =
     Inv-loop
     μ-loop
     loop-holds
-    mul-wide
-    shared-slice-read-wide
-    wide-requires
+    mul-size-of-word
+    shared-slice-read-size-of-word
+    size-of-word-requires
     mixed-requires
     add-i
     loop-less

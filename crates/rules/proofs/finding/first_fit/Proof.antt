@@ -37,26 +37,26 @@ returns c =
     let l = c .before .before .loop in
     sym (l .inv .1 ∙ at-last (a .arities .now) (a .subject .now) (a .rules .now) (l .at) (omega arith) (omega arith))
 
-mul-word : tie.Need-mul-word Inv-loop μ-loop
-mul-word c = omega arith
+mul-size-of-word : tie.Need-mul-size-of-word Inv-loop μ-loop
+mul-size-of-word c = omega arith
 
-shared-slice-read-word : tie.Need-shared-slice-read-word Inv-loop μ-loop
-shared-slice-read-word c = omega arith
+shared-slice-read-size-of-word : tie.Need-shared-slice-read-size-of-word Inv-loop μ-loop
+shared-slice-read-size-of-word c = omega arith
 
-word-requires : tie.Need-word-requires Inv-loop μ-loop
-word-requires c κs = search needs
+size-of-word-requires : tie.Need-size-of-word-requires Inv-loop μ-loop
+size-of-word-requires c κs = search needs
 
-add-word : tie.Need-add-word Inv-loop μ-loop
-add-word c = omega arith
+add-size-of-word : tie.Need-add-size-of-word Inv-loop μ-loop
+add-size-of-word c = omega arith
 
-mul-word-2 : tie.Need-mul-word-2 Inv-loop μ-loop
-mul-word-2 c = omega arith
+mul-size-of-word-2 : tie.Need-mul-size-of-word-2 Inv-loop μ-loop
+mul-size-of-word-2 c = omega arith
 
-shared-slice-read-word-2 : tie.Need-shared-slice-read-word-2 Inv-loop μ-loop
-shared-slice-read-word-2 c = omega arith
+shared-slice-read-size-of-word-2 : tie.Need-shared-slice-read-size-of-word-2 Inv-loop μ-loop
+shared-slice-read-size-of-word-2 c = omega arith
 
-word-requires-2 : tie.Need-word-requires-2 Inv-loop μ-loop
-word-requires-2 c κs = search needs
+size-of-word-requires-2 : tie.Need-size-of-word-requires-2 Inv-loop μ-loop
+size-of-word-requires-2 c κs = search needs
 
 add-from : tie.Need-add-from Inv-loop μ-loop
 add-from c = omega arith
@@ -71,7 +71,7 @@ returns-2 : tie.Need-returns-2 Inv-loop μ-loop
 returns-2 c =
     let a = c .before .before .before .before .before .before .before .before .before .before .before .args in
     let l = c .before .before .before .before .before .before .before .loop in
-    sym (l .inv .1 ∙ at-over (a .arities .now) (a .subject .now) (a .rules .now) (l .at) _ _ (omega arith) (c .before .before .before .word .ensures .0) (c .before .word2 .ensures .0) (c .if2 .taken))
+    sym (l .inv .1 ∙ at-over (a .arities .now) (a .subject .now) (a .rules .now) (l .at) _ _ (omega arith) (c .before .before .before .size-of-word .ensures .0) (c .before .size-of-word2 .ensures .0) (c .if2 .taken))
 
 add-to : tie.Need-add-to Inv-loop μ-loop
 add-to c = omega arith
@@ -102,8 +102,8 @@ returns-3 c =
     let a = c .before .before .before .before .before .before .before .before .before .before .before .before .before .before .args in
     let l = c .before .before .before .before .before .before .before .before .before .before .loop in
     sym (l .inv .1 ∙ at-found (a .arities .now) (a .subject .now) (a .rules .now) (l .at) _ _ (omega arith)
-    (c .before .before .before .before .before .before .word .ensures .0) (c .before .before .before .before .word2 .ensures .0)
-    (c .before .before .before .if2 .left) (exact (a .arities .now) (a .rules .now) (a .subject .now) (l .at + 2) (c .before .before .before .before .before .before .word .result) (c .before .does-fit .ensures) (c .if3 .taken)))
+    (c .before .before .before .before .before .before .size-of-word .ensures .0) (c .before .before .before .before .size-of-word2 .ensures .0)
+    (c .before .before .before .if2 .left) (exact (a .arities .now) (a .rules .now) (a .subject .now) (l .at + 2) (c .before .before .before .before .before .before .size-of-word .result) (c .before .does-fit .ensures) (c .if3 .taken)))
 
 add-at : tie.Need-add-at Inv-loop μ-loop
 add-at c = omega arith
@@ -120,8 +120,8 @@ loop-again c =
     let l = c .before .before .before .before .before .before .before .before .before .before .loop in (
       omega arith,
       l .inv .1 ∙ at-next (a .arities .now) (a .subject .now) (a .rules .now) (l .at) _ _ (omega arith)
-          (c .before .before .before .before .before .before .word .ensures .0) (c .before .before .before .before .word2 .ensures .0)
-          (c .before .before .before .if2 .left) (exact (a .arities .now) (a .rules .now) (a .subject .now) (l .at + 2) (c .before .before .before .before .before .before .word .result) (c .before .does-fit .ensures) (c .if3 .left)),
+          (c .before .before .before .before .before .before .size-of-word .ensures .0) (c .before .before .before .before .size-of-word2 .ensures .0)
+          (c .before .before .before .if2 .left) (exact (a .arities .now) (a .rules .now) (a .subject .now) (l .at + 2) (c .before .before .before .before .before .before .size-of-word .result) (c .before .does-fit .ensures) (c .if3 .left)),
     )
 
 returns-4 : tie.Need-returns-4 Inv-loop μ-loop
@@ -139,13 +139,13 @@ first-fit-spec =
     loop-holds
     sub-if1
     returns
-    mul-word
-    shared-slice-read-word
-    word-requires
-    add-word
-    mul-word-2
-    shared-slice-read-word-2
-    word-requires-2
+    mul-size-of-word
+    shared-slice-read-size-of-word
+    size-of-word-requires
+    add-size-of-word
+    mul-size-of-word-2
+    shared-slice-read-size-of-word-2
+    size-of-word-requires-2
     add-from
     sub-if2
     add-if2

@@ -27,26 +27,26 @@ returns c =
     let l = c .before .before .loop in
     sym (l .inv .2 ∙ pass-last _ (l .at) _ (omega arith) (omega arith))
 
-mul-word : tie.Need-mul-word Inv-loop μ-loop
-mul-word c = omega arith
+mul-size-of-word : tie.Need-mul-size-of-word Inv-loop μ-loop
+mul-size-of-word c = omega arith
 
-shared-slice-read-word : tie.Need-shared-slice-read-word Inv-loop μ-loop
-shared-slice-read-word c = omega arith
+shared-slice-read-size-of-word : tie.Need-shared-slice-read-size-of-word Inv-loop μ-loop
+shared-slice-read-size-of-word c = omega arith
 
-word-requires : tie.Need-word-requires Inv-loop μ-loop
-word-requires c κs = search needs
+size-of-word-requires : tie.Need-size-of-word-requires Inv-loop μ-loop
+size-of-word-requires c κs = search needs
 
-add-word : tie.Need-add-word Inv-loop μ-loop
-add-word c = omega arith
+add-size-of-word : tie.Need-add-size-of-word Inv-loop μ-loop
+add-size-of-word c = omega arith
 
-mul-word-2 : tie.Need-mul-word-2 Inv-loop μ-loop
-mul-word-2 c = omega arith
+mul-size-of-word-2 : tie.Need-mul-size-of-word-2 Inv-loop μ-loop
+mul-size-of-word-2 c = omega arith
 
-shared-slice-read-word-2 : tie.Need-shared-slice-read-word-2 Inv-loop μ-loop
-shared-slice-read-word-2 c = omega arith
+shared-slice-read-size-of-word-2 : tie.Need-shared-slice-read-size-of-word-2 Inv-loop μ-loop
+shared-slice-read-size-of-word-2 c = omega arith
 
-word-requires-2 : tie.Need-word-requires-2 Inv-loop μ-loop
-word-requires-2 c κs = search needs
+size-of-word-requires-2 : tie.Need-size-of-word-requires-2 Inv-loop μ-loop
+size-of-word-requires-2 c κs = search needs
 
 add-from : tie.Need-add-from Inv-loop μ-loop
 add-from c = omega arith
@@ -60,7 +60,7 @@ add-if2 c = omega arith
 returns-2 : tie.Need-returns-2 Inv-loop μ-loop
 returns-2 c =
     let l = c .before .before .before .before .before .before .before .loop in
-    sym (l .inv .2 ∙ pass-over _ (l .at) _ _ _ (omega arith) (c .before .before .before .word .ensures .0) (c .before .word2 .ensures .0) (c .if2 .taken))
+    sym (l .inv .2 ∙ pass-over _ (l .at) _ _ _ (omega arith) (c .before .before .before .size-of-word .ensures .0) (c .before .size-of-word2 .ensures .0) (c .if2 .taken))
 
 add-past : tie.Need-add-past Inv-loop μ-loop
 add-past c = omega arith
@@ -116,7 +116,7 @@ loop-again c =
     let t = c .before .before .before in (
       omega arith,
       simp length-set (l .inv .1),
-      l .inv .2 ∙ pass-on _ (l .at) _ _ _ (omega arith) (t .before .before .before .word .ensures .0) (t .before .word2 .ensures .0) (t .if2 .left)
+      l .inv .2 ∙ pass-on _ (l .at) _ _ _ (omega arith) (t .before .before .before .size-of-word .ensures .0) (t .before .size-of-word2 .ensures .0) (t .if2 .left)
           _ _ _ (c .before .before .word-at .ensures) (c .before .slot-of .ensures .0) (c .start-of .ensures),
     )
 
@@ -132,13 +132,13 @@ index-of-spec =
     loop-holds
     sub-if1
     returns
-    mul-word
-    shared-slice-read-word
-    word-requires
-    add-word
-    mul-word-2
-    shared-slice-read-word-2
-    word-requires-2
+    mul-size-of-word
+    shared-slice-read-size-of-word
+    size-of-word-requires
+    add-size-of-word
+    mul-size-of-word-2
+    shared-slice-read-size-of-word-2
+    size-of-word-requires-2
     add-from
     sub-if2
     add-if2

@@ -37,11 +37,11 @@ enum-known-e c = search needs
 is-var-requires : tie.Need-is-var-requires Inv-loop μ-loop
 is-var-requires c κs = search needs
 
-sub-word : tie.Need-sub-word Inv-loop μ-loop
-sub-word c = isVar-slot _ (sym (c .before .is-var .ensures) ∙ c .if1 .taken) .0
+sub-size-of-word : tie.Need-sub-size-of-word Inv-loop μ-loop
+sub-size-of-word c = isVar-slot _ (sym (c .before .is-var .ensures) ∙ c .if1 .taken) .0
 
-word-requires : tie.Need-word-requires Inv-loop μ-loop
-word-requires c κs = search needs
+size-of-word-requires : tie.Need-size-of-word-requires Inv-loop μ-loop
+size-of-word-requires c κs = search needs
 
 mul-b : tie.Need-mul-b Inv-loop μ-loop
 mul-b c = search needs
@@ -50,7 +50,7 @@ element-write-b : tie.Need-element-write-b Inv-loop μ-loop
 element-write-b c =
     let at = c .before .before .before .before .before .before .before .before .before in
     let w = getD (at .before .before .before .before .args .left .now) (at .loop .i) 0 in
-    omega (arith, c .word .ensures .0, isVar-slot w (sym (c .before .before .is-var .ensures) ∙ c .before .if1 .taken))
+    omega (arith, c .size-of-word .ensures .0, isVar-slot w (sym (c .before .before .is-var .ensures) ∙ c .before .if1 .taken))
 
 mul-b-2 : tie.Need-mul-b-2 Inv-loop μ-loop
 mul-b-2 c = search needs
@@ -59,7 +59,7 @@ element-write-b-2 : tie.Need-element-write-b-2 Inv-loop μ-loop
 element-write-b-2 c =
     let at = c .before .before .before .before .before .before .before .before .before in
     let w = getD (at .before .before .before .before .args .left .now) (at .loop .i) 0 in
-    omega (arith, c .word .ensures .0, isVar-slot w (sym (c .before .before .is-var .ensures) ∙ c .before .if1 .taken))
+    omega (arith, c .size-of-word .ensures .0, isVar-slot w (sym (c .before .before .is-var .ensures) ∙ c .before .if1 .taken))
 
 enum-told : tie.Need-enum-told Inv-loop μ-loop
 enum-told c = search needs
@@ -110,8 +110,8 @@ bind-spec =
     take-word-requires
     enum-known-e
     is-var-requires
-    sub-word
-    word-requires
+    sub-size-of-word
+    size-of-word-requires
     mul-b
     element-write-b
     mul-b-2

@@ -27,8 +27,8 @@ returns c =
     let at = read .before .before .before in
     c .plain-root .ensures ∙ root-plain (at .args .arities .now) (at .args .bytes .now) (at .args .p) (at .pre) _ (read .record-at .ensures) (c .before .if1 .taken)
 
-wide-requires : tie.Need-wide-requires
-wide-requires c κs = search needs
+word-of-byte-requires : tie.Need-word-of-byte-requires
+word-of-byte-requires c κs = search needs
 
 long-root-requires : tie.Need-long-root-requires
 long-root-requires c κs = search needs
@@ -39,8 +39,8 @@ returns-2 c =
     let at = read .before .before .before in
     let r = read .record-at .result in
     c .long-root .ensures
-    ∙ ap (λ (b : ℕ). rootOf (longRecord (at .args .arities .now) (r .kind) b) (at .args .p + r .len)) (c .before .wide .ensures .0)
+    ∙ ap (λ (b : ℕ). rootOf (longRecord (at .args .arities .now) (r .kind) b) (at .args .p + r .len)) (c .before .word-of-byte .ensures .0)
     ∙ root-long (at .args .arities .now) (at .args .bytes .now) (at .args .p) (at .pre) r (read .record-at .ensures) (c .before .before .if1 .left)
 
 pub root-at-spec : {M : Type 1} → statement M
-root-at-spec = tie.close (tie.spec record-at-requires add-next plain-root-requires returns wide-requires long-root-requires returns-2)
+root-at-spec = tie.close (tie.spec record-at-requires add-next plain-root-requires returns word-of-byte-requires long-root-requires returns-2)

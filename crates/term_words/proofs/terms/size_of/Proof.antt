@@ -18,14 +18,14 @@ Inv-loop arities bytes p n owed₀ next₀ count₀ owed next count = Going arit
 abbrev μ-loop : tie.MeasureT-loop
 μ-loop arities bytes p n owed₀ next₀ count₀ owed next count = length bytes - next
 
-wider-requires : tie.Need-wider-requires Inv-loop μ-loop
-wider-requires c κs = search needs
+size-of-byte-requires : tie.Need-size-of-byte-requires Inv-loop μ-loop
+size-of-byte-requires c κs = search needs
 
 loop-holds : tie.Need-loop-holds Inv-loop μ-loop
 loop-holds c =
     let at = c .before .before .before in
     let a = at .args in
-    subst (λ (i : ℕ). Going (a .arities .now) (a .bytes .now) (a .p) (a .n) i (a .p) 0) (sym (c .wider .ensures)) (going-start (a .arities .now) (a .bytes .now) (a .p) (a .n) (at .pre .0 .0) (at .pre .0 .1))
+    subst (λ (i : ℕ). Going (a .arities .now) (a .bytes .now) (a .p) (a .n) i (a .p) 0) (sym (c .size-of-byte .ensures .0)) (going-start (a .arities .now) (a .bytes .now) (a .p) (a .n) (at .pre .0 .0) (at .pre .0 .1))
 
 -- at a turn a whole term stands at `next`
 here : (c : tie.In-loop Inv-loop μ-loop) → let at = c .before in let a = at .before .before .before .before .args in Whole (from (a .arities .now) (a .bytes .now) (at .loop .next)) 1
@@ -63,11 +63,11 @@ add-count c =
 sub-owed : tie.Need-sub-owed Inv-loop μ-loop
 sub-owed c = let h = c .before .before .loop-test .taken in omega (arith, h)
 
-wider-requires-2 : tie.Need-wider-requires-2 Inv-loop μ-loop
-wider-requires-2 c κs = search needs
+size-of-byte-requires-2 : tie.Need-size-of-byte-requires-2 Inv-loop μ-loop
+size-of-byte-requires-2 c κs = search needs
 
 add-owed : tie.Need-add-owed Inv-loop μ-loop
-add-owed c = omega (arith, turned (c .before .before) .few, c .wider2 .ensures)
+add-owed c = omega (arith, turned (c .before .before) .few, c .size-of-byte2 .ensures .0)
 
 loop-less : tie.Need-loop-less Inv-loop μ-loop
 loop-less c = omega (arith, bounds (c .before .before))
@@ -77,7 +77,7 @@ loop-again c =
     let r = c .before .before in
     let at = r .before .before in
     let a = at .before .before .before .before .args in
-    subst (λ (i : ℕ). Going (a .arities .now) (a .bytes .now) (a .p) (a .n) (at .loop .owed - 1 + i) (r .root-at .result .next) (at .loop .count + c .before .word-count .result)) (sym (c .wider2 .ensures))
+    subst (λ (i : ℕ). Going (a .arities .now) (a .bytes .now) (a .p) (a .n) (at .loop .owed - 1 + i) (r .root-at .result .next) (at .loop .count + c .before .word-count .result)) (sym (c .size-of-byte2 .ensures .0))
     (subst (λ (i : ℕ). Going (a .arities .now) (a .bytes .now) (a .p) (a .n) (at .loop .owed - 1 + r .root-at .result .parts) (r .root-at .result .next) (at .loop .count + i)) (sym (c .before .word-count .ensures)) (turned r))
 
 returns : tie.Need-returns Inv-loop μ-loop
@@ -94,13 +94,13 @@ size-of-spec =
     (tie.spec
     Inv-loop
     μ-loop
-    wider-requires
+    size-of-byte-requires
     loop-holds
     root-at-requires
     word-count-requires
     add-count
     sub-owed
-    wider-requires-2
+    size-of-byte-requires-2
     add-owed
     loop-less
     loop-again

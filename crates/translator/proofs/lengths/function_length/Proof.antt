@@ -8,25 +8,25 @@ use Rattle.translator.proofs.Counts.{product-le, fun-count}
 use Rattle.translator.proofs.lengths.function_length.Statement.{statement}
 use Rattle.translator.proofs.lengths.function_length.Tie as tie
 
-is-arity : (c : tie.After-wider) → let a = c .before .before .before .before .before .before .args in c .wider .result ≡ getD (a .arities .now) (16 + a .f) 0
-is-arity c = c .wider .ensures ∙ c .before .wide .ensures ∙ c .before .before .arity-of .ensures
+is-arity : (c : tie.After-wider) → let a = c .before .before .before .before .before .before .args in c .size-of-word .result ≡ getD (a .arities .now) (16 + a .f) 0
+is-arity c = c .size-of-word .ensures .0 ∙ c .before .word-of-byte .ensures .0 ∙ c .before .before .arity-of .ensures
 
-small : (c : tie.After-wider) → c .wider .result ≤ 4
+small : (c : tie.After-wider) → c .size-of-word .result ≤ 4
 small c =
     let at = c .before .before .before .before .before .before in
     omega (arith, at .pre .1, is-arity c)
 
-product : (c : tie.After-wider) → c .wider .result * (2 * c .wider .result + 7) ≤ 60
-product c = product-le (c .wider .result) (small c)
+product : (c : tie.After-wider) → c .size-of-word .result * (2 * c .size-of-word .result + 7) ≤ 60
+product c = product-le (c .size-of-word .result) (small c)
 
 arity-of-requires : tie.Need-arity-of-requires
 arity-of-requires c κs = search needs
 
-wide-requires : tie.Need-wide-requires
-wide-requires c κs = search needs
+word-of-byte-requires : tie.Need-word-of-byte-requires
+word-of-byte-requires c κs = search needs
 
-wider-requires : tie.Need-wider-requires
-wider-requires c κs = search needs
+size-of-word-requires : tie.Need-size-of-word-requires
+size-of-word-requires c κs = search needs
 
 mul-result : tie.Need-mul-result
 mul-result c = omega (arith, small c)
@@ -56,7 +56,7 @@ returns : tie.Need-returns
 returns c =
     let w = c .before in
     let a = w .before .before .before .before .before .before .args in (
-      ap (2 * w .wider .result + 4 + w .wider .result * (2 * w .wider .result + 7) +_) (c .own-rules-length .ensures .0) ∙ sym (fun-count (a .arities .now) (a .program .now) (a .f) (w .wider .result) (w .before .before .arity-of .result) (is-arity w) (w .before .before .arity-of .ensures) (small w)),
+      ap (2 * w .size-of-word .result + 4 + w .size-of-word .result * (2 * w .size-of-word .result + 7) +_) (c .own-rules-length .ensures .0) ∙ sym (fun-count (a .arities .now) (a .program .now) (a .f) (w .size-of-word .result) (w .before .before .arity-of .result) (is-arity w) (w .before .before .arity-of .ensures) (small w)),
       omega (arith, small w, product w, c .own-rules-length .ensures .1),
     )
 
@@ -65,8 +65,8 @@ function-length-spec =
     tie.close
     (tie.spec
     arity-of-requires
-    wide-requires
-    wider-requires
+    word-of-byte-requires
+    size-of-word-requires
     mul-result
     add-result
     mul-result-2

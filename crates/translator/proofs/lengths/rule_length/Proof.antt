@@ -19,14 +19,14 @@ shared-slice-read-if1 c = search needs
 rule-sizes-requires : tie.Need-rule-sizes-requires
 rule-sizes-requires c κs = c .before .before .before .before .pre .opened (c .if1 .taken)
 
-wider-requires : tie.Need-wider-requires
-wider-requires c κs = search needs
+size-of-word-requires : tie.Need-size-of-word-requires
+size-of-word-requires c κs = search needs
 
 add-result : tie.Need-add-result
 add-result c = search needs
 
-wider-requires-2 : tie.Need-wider-requires-2
-wider-requires-2 c κs = search needs
+size-of-word-requires-2 : tie.Need-size-of-word-requires-2
+size-of-word-requires-2 c κs = search needs
 
 add-result-2 : tie.Need-add-result-2
 add-result-2 c = search needs
@@ -37,8 +37,8 @@ returns c =
     let at = z .before .before .before .before .before in
     let a = at .args in
     let o = at .pre .opened (z .before .if1 .taken) in
-    let l = c .before .wider .ensures ∙ ap (λ (x : Sizes). x .left) (z .rule-sizes .ensures) in
-    let r = c .wider2 .ensures ∙ ap (λ (x : Sizes). x .right) (z .rule-sizes .ensures) in (
+    let l = c .before .size-of-word .ensures .0 ∙ ap (λ (x : Sizes). x .left) (z .rule-sizes .ensures) in
+    let r = c .size-of-word2 .ensures .0 ∙ ap (λ (x : Sizes). x .right) (z .rule-sizes .ensures) in (
       ap₂ (λ (i j : ℕ). 2 + i + j) l r
           ∙ sym (rule-count (a .arities .now) (a .program .now) (a .p) (16 + a .f) (a .n) o)
           ∙ sym (ap length (if-same (a .arities .now) (a .program .now) (a .p) (a .f) (a .n) (z .before .if1 .taken))),
@@ -57,9 +57,9 @@ rule-length-spec =
     add-if1
     shared-slice-read-if1
     rule-sizes-requires
-    wider-requires
+    size-of-word-requires
     add-result
-    wider-requires-2
+    size-of-word-requires-2
     add-result-2
     returns
     returns-2)

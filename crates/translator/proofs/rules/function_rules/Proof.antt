@@ -16,7 +16,7 @@ use Rattle.translator.proofs.rules.function_rules.Tie as tie
 
 -- the words of the two
 abbrev first : (c : tie.After-wide2) → List ℕ
-first c = storedRules (callRules (16 + c .before .before .wide .result) (c .wide2 .result))
+first c = storedRules (callRules (16 + c .before .before .word-of-byte .result) (c .word-of-byte2 .result))
 
 abbrev last : (c : tie.After-wide2) → List ℕ
 last c = let a = c .before .before .before .before .before .before .before .args in rulesWords (a .f) (c .before .arity-of .result) (rulesIn (a .program .now))
@@ -25,14 +25,14 @@ all : (c : tie.After-wide2) → let a = c .before .before .before .before .befor
 all c =
     let a = c .before .before .before .before .before .before .before .args in
     let n = c .before .arity-of .ensures in
-    fun-words (a .arities .now) (a .program .now) (a .f) (16 + c .before .before .wide .result) (c .wide2 .result) (c .before .arity-of .result)
-    (ap (16 +_) (c .before .before .wide .ensures)) (c .wide2 .ensures ∙ n) n
+    fun-words (a .arities .now) (a .program .now) (a .f) (16 + c .before .before .word-of-byte .result) (c .word-of-byte2 .result) (c .before .arity-of .result)
+    (ap (16 +_) (c .before .before .word-of-byte .ensures .0)) (c .word-of-byte2 .ensures .0 ∙ n) n
 
 room : (c : tie.After-wide2) → let a = c .before .before .before .before .before .before .before .args in Room (first c ++ last c) (a .at) (a .dst .now)
 room c = let at = c .before .before .before .before .before .before .before in room-as (at .args .at) (at .args .dst .now) (all c) (at .pre .1)
 
-wide-requires : tie.Need-wide-requires
-wide-requires c κs = search needs
+word-of-byte-requires : tie.Need-word-of-byte-requires
+word-of-byte-requires c κs = search needs
 
 add-k : tie.Need-add-k
 add-k c = search needs
@@ -40,15 +40,15 @@ add-k c = search needs
 arity-of-requires : tie.Need-arity-of-requires
 arity-of-requires c κs = search needs
 
-wide-requires-2 : tie.Need-wide-requires-2
-wide-requires-2 c κs = search needs
+word-of-byte-requires-2 : tie.Need-word-of-byte-requires-2
+word-of-byte-requires-2 c κs = search needs
 
 call-rules-requires : tie.Need-call-rules-requires
 call-rules-requires c κs =
     let w = c .before in
     let at = w .before .before .before .before .before .before .before in
     let a = at .args in
-    ((omega (arith, w .before .before .wide .ensures), omega (arith, at .pre .0 .1, w .wide2 .ensures, w .before .arity-of .ensures)), room-first (first w) (last w) (a .at) (a .dst .now) (room w))
+    ((omega (arith, w .before .before .word-of-byte .ensures .0), omega (arith, at .pre .0 .1, w .word-of-byte2 .ensures .0, w .before .arity-of .ensures)), room-first (first w) (last w) (a .at) (a .dst .now) (room w))
 
 own-rules-requires : tie.Need-own-rules-requires
 own-rules-requires c κs =
@@ -72,10 +72,10 @@ pub function-rules-spec : {M : Type 1} → statement M
 function-rules-spec =
     tie.close
     (tie.spec
-    wide-requires
+    word-of-byte-requires
     add-k
     arity-of-requires
-    wide-requires-2
+    word-of-byte-requires-2
     call-rules-requires
     own-rules-requires
     same-length

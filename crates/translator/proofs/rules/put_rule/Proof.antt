@@ -22,7 +22,7 @@ heads c =
     let a = at .args in
     let e = at .pre .1 .0 .1 in
     ap (λ (x : Sizes). x .left ∷ x .right ∷ c .symbol .result ∷ []) e
-    ∙ ap (λ (w : ℕ). (countOf (from (a .arities .now) (a .program .now) (a .p + 2)) (a .n) + 1) ∷ countOf (from (a .arities .now) (a .program .now) (rightAt (a .arities .now) (a .program .now) (a .p) (a .n))) 1 ∷ w ∷ []) (c .symbol .ensures ∙ ap (λ (i : ℕ). aux (a .k) (i + 1)) (c .before .wide .ensures))
+    ∙ ap (λ (w : ℕ). (countOf (from (a .arities .now) (a .program .now) (a .p + 2)) (a .n) + 1) ∷ countOf (from (a .arities .now) (a .program .now) (rightAt (a .arities .now) (a .program .now) (a .p) (a .n))) 1 ∷ w ∷ []) (c .symbol .ensures ∙ ap (λ (i : ℕ). aux (a .k) (i + 1)) (c .before .word-of-byte .ensures .0))
 
 front : (c : tie.After-put-words) → let a = c .before .before .before .before .before .before .before .before .args in
     Wrote (headWords (a .arities .now) (a .program .now) (a .p) (a .k) (a .n)) (a .at) (a .dst .now) (c .put-words .last .0) (c .put-words .result)
@@ -41,8 +41,8 @@ sides c =
 right : (c : tie.Start) → let a = c .args in rightWords (a .arities .now) (a .program .now) (a .p) (a .n) ≡ words (tree (termAt (a .arities .now) (a .program .now) (a .s .middle)))
 right c = let a = c .args in ap (λ (x : Sizes). words (tree (termAt (a .arities .now) (a .program .now) (x .middle)))) (sym (c .pre .1 .0 .1))
 
-wide-requires : tie.Need-wide-requires
-wide-requires c κs = search needs
+word-of-byte-requires : tie.Need-word-of-byte-requires
+word-of-byte-requires c κs = search needs
 
 add-symbol : tie.Need-add-symbol
 add-symbol c = search needs
@@ -97,7 +97,7 @@ pub put-rule-spec : {M : Type 1} → statement M
 put-rule-spec =
     tie.close
     (tie.spec
-    wide-requires
+    word-of-byte-requires
     add-symbol
     symbol-requires
     slice-aggregate-put-words

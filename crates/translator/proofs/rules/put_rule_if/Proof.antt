@@ -12,11 +12,11 @@ use Rattle.translator.proofs.rules.put_rule_if.Tie as tie
 
 -- the words that are written
 same : (c : tie.After-wide) → let a = c .before .before .before .before .before .before .before .args in
-    ruleIf (a .arities .now) (a .program .now) (a .p) (a .f) (a .n) ≡ storedRule (ruleAt (a .arities .now) (a .program .now) (a .p) (16 + c .wide .result) (a .n))
+    ruleIf (a .arities .now) (a .program .now) (a .p) (a .f) (a .n) ≡ storedRule (ruleAt (a .arities .now) (a .program .now) (a .p) (16 + c .word-of-byte .result) (a .n))
 same c =
     let a = c .before .before .before .before .before .before .before .args in
     if-same (a .arities .now) (a .program .now) (a .p) (a .f) (a .n) (c .before .before .if1 .taken)
-    ∙ ap (λ (i : ℕ). storedRule (ruleAt (a .arities .now) (a .program .now) (a .p) (16 + i) (a .n))) (sym (c .wide .ensures))
+    ∙ ap (λ (i : ℕ). storedRule (ruleAt (a .arities .now) (a .program .now) (a .p) (16 + i) (a .n))) (sym (c .word-of-byte .ensures .0))
 
 add-if1 : tie.Need-add-if1
 add-if1 c = search needs
@@ -27,8 +27,8 @@ shared-slice-read-if1 c = search needs
 rule-sizes-requires : tie.Need-rule-sizes-requires
 rule-sizes-requires c κs = c .before .before .before .before .before .pre .1 .0 .opened (c .if1 .taken)
 
-wide-requires : tie.Need-wide-requires
-wide-requires c κs = search needs
+word-of-byte-requires : tie.Need-word-of-byte-requires
+word-of-byte-requires c κs = search needs
 
 add-put-rule : tie.Need-add-put-rule
 add-put-rule c = search needs
@@ -37,7 +37,7 @@ put-rule-requires : tie.Need-put-rule-requires
 put-rule-requires c κs =
     let w = c .before in
     let at = w .before .before .before .before .before .before .before in (
-      (omega (arith, w .wide .ensures), at .pre .0),
+      (omega (arith, w .word-of-byte .ensures .0), at .pre .0),
       ((at .pre .1 .0 .opened (w .before .before .if1 .taken), w .before .rule-sizes .ensures), room-as (at .args .at) (at .args .dst .now) (same w) (at .pre .1 .1)),
     )
 
@@ -61,7 +61,7 @@ put-rule-if-spec =
     add-if1
     shared-slice-read-if1
     rule-sizes-requires
-    wide-requires
+    word-of-byte-requires
     add-put-rule
     put-rule-requires
     same-length

@@ -29,14 +29,14 @@ size-of-requires-2 c κs =
     let small = subst (λ (q : ℕ). countOf (from (a .arities .now) (a .program .now) q) 1 < 1000) (sym (middle c)) (at .pre .small-right) in
     ((c .size-of .ensures .0 .inside, subst (λ (q : ℕ). Whole (from (a .arities .now) (a .program .now) q) 1) (sym (middle c)) (at .pre .right)), omega (arith, small))
 
-narrow-requires : tie.Need-narrow-requires
-narrow-requires c κs = search needs
+word-of-size-requires : tie.Need-word-of-size-requires
+word-of-size-requires c κs = search needs
 
 add-t10 : tie.Need-add-t10
 add-t10 c = search needs
 
-narrow-requires-2 : tie.Need-narrow-requires-2
-narrow-requires-2 c κs =
+word-of-size-requires-2 : tie.Need-word-of-size-requires-2
+word-of-size-requires-2 c κs =
     let m = c .before .before in
     let at = m .before .before .before in
     let a = at .args in
@@ -51,7 +51,7 @@ returns c =
     let q = m .size-of .result .from in
     let count : ℕ → ℕ = λ i. countOf (from (a .arities .now) (a .program .now) i) 1 in
     let l = countOf (from (a .arities .now) (a .program .now) (a .p + 2)) (a .n) + 1 in
-    ap₂ (λ (l r : ℕ). sized (l + 1) r q) (c .before .narrow .ensures ∙ m .size-of .ensures .1) (c .narrow2 .ensures ∙ z .size-of2 .ensures .1)
+    ap₂ (λ (l r : ℕ). sized (l + 1) r q) (c .before .word-of-size .ensures ∙ m .size-of .ensures .1) (c .word-of-size2 .ensures ∙ z .size-of2 .ensures .1)
     ∙ ap (λ (i : ℕ). sized l (count i) i) (middle m)
 
 pub rule-sizes-spec : {M : Type 1} → statement M
@@ -61,7 +61,7 @@ rule-sizes-spec =
     add-size-of
     size-of-requires
     size-of-requires-2
-    narrow-requires
+    word-of-size-requires
     add-t10
-    narrow-requires-2
+    word-of-size-requires-2
     returns)
