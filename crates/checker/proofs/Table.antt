@@ -12,7 +12,7 @@ use Rattle.theory.specs.Syntax.{Fun, pick}
 use Rattle.theory.specs.Builtins.{builtinFuns, nthFun}
 use Rattle.theory.specs.Bytes.{good, Book, RuleAt, ruleCount, openedAt, funsOf, nthArity, Agrees, programOf, readProgram}
 use Rattle.theory.proofs.Accepted.{program-on-bytes}
-use Rattle.checker.specs.Answer.{padded, builtins, table}
+use Rattle.checker.specs.Answer.{padded, aritiesIn, builtins, table}
 use Rattle.checker.proofs.Callers.{functions-most}
 
 zeros-end : (n k : ℕ) → _≡_ {A = ℕ} (getD (replicate n 0) k 0) 0
@@ -40,10 +40,6 @@ padded-at (suc n) [] h (suc k) = padded-none n k
 padded-at (suc n) (a ∷ ns) h zero = refl
 padded-at (suc n) (a ∷ ns) h (suc k) = padded-at n ns (omega arith) k
 
-abbrev aritiesIn : List Fun → List ℕ
-aritiesIn [] = []
-aritiesIn (f ∷ fs) = f .arity ∷ aritiesIn fs
-
 arity-at : (fs : List Fun) (k : ℕ) → getD (aritiesIn fs) k 0 ≡ nthFun fs k .arity
 arity-at [] k = refl
 arity-at (f ∷ fs) zero = refl
@@ -54,9 +50,9 @@ declared-arity f [] rs k = refl
 declared-arity f (a ∷ ns) rs zero = refl
 declared-arity f (a ∷ ns) rs (suc k) = declared-arity (suc f) ns rs k
 
-table-builtin : (ns : List ℕ) (k : ℕ) → k < 16 → getD (table ns) k 0 ≡ nthFun builtinFuns k .arity
+pub table-builtin : (ns : List ℕ) (k : ℕ) → k < 16 → getD (table ns) k 0 ≡ nthFun builtinFuns k .arity
 unfolding table
-table-builtin ns k h = List·getD-append builtins (padded 32 ns) 0 k h ∙ zeros-behind (aritiesIn builtinFuns) 10 k ∙ arity-at builtinFuns k
+table-builtin ns k h = List·getD-append builtins (padded 32 ns) 0 k h ∙ zeros-behind (aritiesIn builtinFuns) (16 - length builtinFuns) k ∙ arity-at builtinFuns k
 
 table-declared : (ns : List ℕ) → length ns ≤ 32 → (k : ℕ) → getD (table ns) (16 + k) 0 ≡ getD ns k 0
 unfolding table

@@ -1,9 +1,10 @@
 -- What the two public calls answer: the number and the place of a refusal, or what was read.
-use Prim.Native.Nat.{ℕ, zero, suc}
+use Prim.Native.Nat.{ℕ, zero, suc, _-_}
 use mathlib.Core.List.{List, [], _∷_, _++_}
 use lib.ListN.{length, replicate}
 use Rattle.theory.specs.Bytes.{openedAt, Result, refused, good, Book, ruleCount, Declared}
-use Rattle.theory.specs.Syntax.{Term}
+use Rattle.theory.specs.Syntax.{Term, Fun}
+use Rattle.theory.specs.Builtins.{builtinFuns}
 use Rattle.checker.specs.declared.Checked.{Checked}
 use Rattle.checker.specs.declared.Verdict.{Verdict}
 
@@ -17,9 +18,13 @@ padded zero ns = []
 padded (suc k) [] = 0 ∷ padded k []
 padded (suc k) (n ∷ ns) = n ∷ padded k ns
 
--- the built-ins' arities, up to the declared functions'
+-- the arities of functions; the built-ins', up to the declared functions'
+abbrev pub aritiesIn : List Fun → List ℕ
+aritiesIn [] = []
+aritiesIn (f ∷ fs) = f .arity ∷ aritiesIn fs
+
 abbrev pub builtins : List ℕ
-builtins = 2 ∷ 2 ∷ 1 ∷ 2 ∷ 2 ∷ 2 ∷ 0 ∷ 0 ∷ 0 ∷ 0 ∷ 0 ∷ 0 ∷ 0 ∷ 0 ∷ 0 ∷ 0 ∷ []
+builtins = aritiesIn builtinFuns ++ replicate (16 - length builtinFuns) 0
 
 -- the arities by function number, 48 of them: built-in b is b, declared f is 16 + f, and zeros behind
 unfoldable pub table : List ℕ → List ℕ

@@ -1,11 +1,12 @@
 -- What has been read of a program, and the records that declare exceptions and functions.
 use Prim.Native.Nat.{ℕ, _+_, _≤_}
 use mathlib.Core.Bool.{_&&_}
-use mathlib.Core.List.{List, _∷_}
+use mathlib.Core.List.{List, []}
 use mathlib.Core.Path.{_≡_}
 use lib.ListN.{length, take, replicate, drop, set}
 use lib.Dec.{eqb, leb, ltb}
 use Rattle.theory.specs.Syntax.{choose}
+use Rattle.checker.specs.Answer.{table}
 use Rattle.checker.specs.declared.declarations.Top.{Top}
 
 -- what every turn keeps: the ceilings, and the lengths of the two arrays
@@ -20,7 +21,7 @@ stopTop n p =
 -- nothing read yet: the built-ins' arities
 unfoldable pub startTop : Top
 startTop =
-    record { number = 0; place = 0; stage = 0; exceptions = 0; functions = 0; rules = 0; arities = 2 ∷ 2 ∷ 1 ∷ 2 ∷ 2 ∷ 2 ∷ replicate 42 0; openings = replicate 64 0 }
+    record { number = 0; place = 0; stage = 0; exceptions = 0; functions = 0; rules = 0; arities = table []; openings = replicate 64 0 }
 
 -- the declared functions' arities
 unfoldable pub ownArities : Top → List ℕ

@@ -1,4 +1,5 @@
 // What has been read of a program, and its declarations of exceptions and functions.
+use crate::builtins::start_arities;
 ghost use mathlib.Core.Path.{_≡_};
 ghost use Rattle.checker.specs.Declarations.{stopTop, startTop, exceptionTurn, functionTurn};
 
@@ -36,13 +37,7 @@ pub fn refused_top(number: u8, place: usize) -> Top
 pub fn start_top() -> Top
     ensures { λ r. ⌜ r ≡ startTop ⌝ }
 {
-    let mut arities = [0u8; 48];
-    arities[0] = 2;
-    arities[1] = 2;
-    arities[2] = 1;
-    arities[3] = 2;
-    arities[4] = 2;
-    arities[5] = 2;
+    let arities = start_arities();
     Top {
         number: 0,
         place: 0,

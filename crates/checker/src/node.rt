@@ -1,8 +1,8 @@
 // A term's record by its kind and body, wherever the term stands.
+use crate::builtins::builtin_arity;
 ghost use mathlib.Core.Path.{_≡_};
 ghost use Prim.Native.Nat.{ℕ, _≤_};
 ghost use Rattle.checker.specs.Node.{tokAt, nodeOf, exceptionNode, builtinNode, functionNode, SmallNode};
-ghost use Rattle.theory.specs.Builtins.{nthFun, builtinFuns};
 
 // What a record of a term is: refused by a number; a constant; succ; or what no left side has, with its parts and its words.
 pub enum Node {
@@ -10,14 +10,6 @@ pub enum Node {
     Leaf,
     Succ,
     Inner { parts: usize, words: usize },
-}
-
-// The arity of a built-in.
-fn builtin_arity(b: usize) -> usize
-    requires { ⌜ b ≤ 5 ⌝ }
-    ensures { λ r. ⌜ r ≡ nthFun builtinFuns b .arity ⌝ }
-{
-    if b == 2 { 1 } else { 2 }
 }
 
 // raise and handle: an exception that is declared, or refusal 4.
@@ -33,7 +25,7 @@ fn of_exception(body: u8, exceptions: usize, parts: usize) -> Node
     Node::Refused(4)
 }
 
-// A call of a built-in: one of the six, or refusal 4.
+// A call of a built-in, or refusal 4.
 fn of_builtin(body: u8) -> Node
     ensures { λ r. ⌜ r ≡ builtinNode body ⌝ }
     ensures { λ r. ⌜ SmallNode r ⌝ }

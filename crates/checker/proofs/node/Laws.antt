@@ -13,27 +13,6 @@ use Rattle.theory.specs.Bytes.{TermRecord, raiseRecord, handleRecord, callRecor
 use Rattle.checker.specs.declared.node.Node.the-variants.{Refused, Leaf, Succ, Inner}
 use Rattle.checker.specs.Node.{tokAt, nodeOf, exceptionNode, builtinNode, functionNode}
 
-pub arity-of-two : (b : ℕ) → b ≡ 2 → 1 ≡ nthFun builtinFuns b .arity
-arity-of-two b e = rw e
-
-pub arity-of-others : (b : ℕ) → b ≤ 5 → (b ≡ 2 → ⊥) → 2 ≡ nthFun builtinFuns b .arity
-arity-of-others zero l h = refl
-arity-of-others (suc zero) l h = refl
-arity-of-others (suc (suc zero)) l h = absurd (h refl)
-arity-of-others (suc (suc (suc zero))) l h = refl
-arity-of-others (suc (suc (suc (suc zero)))) l h = refl
-arity-of-others (suc (suc (suc (suc (suc zero))))) l h = refl
-arity-of-others (suc (suc (suc (suc (suc (suc b)))))) l h = absurd (omega arith)
-
-pub builtin-small : (b : ℕ) → b ≤ 5 → nthFun builtinFuns b .arity < 256
-builtin-small zero l = omega arith
-builtin-small (suc zero) l = omega arith
-builtin-small (suc (suc zero)) l = omega arith
-builtin-small (suc (suc (suc zero))) l = omega arith
-builtin-small (suc (suc (suc (suc zero)))) l = omega arith
-builtin-small (suc (suc (suc (suc (suc zero))))) l = omega arith
-builtin-small (suc (suc (suc (suc (suc (suc b)))))) l = absurd (omega arith)
-
 pub nth-getD : (ns : List ℕ) (i : ℕ) → nthArity ns i ≡ getD ns i 0
 nth-getD [] i = refl
 nth-getD (n ∷ ns) zero = refl

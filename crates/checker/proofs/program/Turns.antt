@@ -17,6 +17,7 @@ use Rattle.checker.specs.declared.declarations.Top.{Top}
 use Rattle.record.specs.Record.{recordAt}
 use Rattle.checker.specs.Node.{tokAt}
 use Rattle.checker.specs.Side.{stepOf, mostOf, stopSide, noVars, onStep, onRecord, scan, scanFrom}
+use Rattle.checker.specs.Answer.{table, padded}
 use Rattle.checker.specs.Declarations.{Kept, stopTop, startTop, ownArities, exceptionTurn, functionTurn}
 use Rattle.checker.specs.Program.{rightTurn, leftTurn, sidesTurn, ruleTurn, endTurn, recordTurn, turnOf, turns, parseOf}
 use Rattle.checker.proofs.side.Scan.{choose-same}
@@ -157,11 +158,11 @@ module _ (ws : List ℕ) where
       (λ e. refl)
 
   pub parse-starts : (t : Top) → t ≡ startTop → parseOf ws ≡ turns ws (suc (length ws - t .place)) t
-  unfolding parseOf startTop
+  unfolding parseOf startTop table padded
   parse-starts t e = rw e (turns-fuel (suc (length ws)) (suc (length ws - 0)) startTop (omega arith) (omega arith))
 
   pub start-kept : (t : Top) → t ≡ startTop → Kept t
-  unfolding startTop
+  unfolding startTop table padded
   start-kept t e = rw e (omega arith, refl, omega arith, refl)
 
   pub parse-goes : (t u : Top) → t .stage < 3 → u ≡ turnOf ws t → turns ws (suc (length ws - t .place)) t ≡ turns ws (suc (length ws - u .place)) u

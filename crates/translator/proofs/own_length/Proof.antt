@@ -10,7 +10,7 @@ ready : (c : tie.Start) → let a = c .args in Ready (a .arities .now) (a .progr
 ready c = let a = c .args in accepted-ready (a .arities .now) (a .program .now) (a .openings .now) (a .exceptions) (a .functions) (c .pre)
 
 -- and with the narrowed numbers
-held : (c : tie.After-byte) → let a = c .before .before .before .before .before .args in Ready (a .arities .now) (a .program .now) (a .openings .now) (c .before .word-of-size .result) (c .byte-of-size .result)
+held : (c : tie.After-byte-of-size) → let a = c .before .before .before .before .before .args in Ready (a .arities .now) (a .program .now) (a .openings .now) (c .before .word-of-size .result) (c .byte-of-size .result)
 held c =
     let at = c .before .before .before .before .before in
     let a = at .args in

@@ -31,13 +31,13 @@ ready : (c : tie.Start) → let a = c .args in Ready (a .arities .now) (a .progr
 ready c = let a = c .args in accepted-ready (a .arities .now) (a .program .now) (a .openings .now) (a .exceptions) (a .functions) (c .pre)
 
 -- and with the narrowed numbers
-held : (c : tie.After-byte) → let a = c .before .before .before .before .before .before .args in Ready (a .arities .now) (a .program .now) (a .openings .now) (c .before .word-of-size .result) (c .byte-of-size .result)
+held : (c : tie.After-byte-of-size) → let a = c .before .before .before .before .before .before .args in Ready (a .arities .now) (a .program .now) (a .openings .now) (c .before .word-of-size .result) (c .byte-of-size .result)
 held c =
     let at = c .before .before .before .before .before .before in
     let a = at .args in
     ready-as (a .arities .now) (a .program .now) (a .openings .now) (a .exceptions) (a .functions) (c .before .word-of-size .result) (c .byte-of-size .result) (at .pre) (c .before .word-of-size .ensures) (c .byte-of-size .ensures)
 
-abbrev list : (c : tie.After-byte) → List ℕ
+abbrev list : (c : tie.After-byte-of-size) → List ℕ
 list c = let a = c .before .before .before .before .before .before .args in storedRules (ownIn (a .arities .now) (a .program .now) (c .before .word-of-size .result) (c .byte-of-size .result))
 
 word-of-size-requires : tie.Need-word-of-size-requires

@@ -1,7 +1,7 @@
 -- `checker::node::of_builtin` meets its contract.
 use native.Mathlib.Omega.{arith}
 use borrow.Author.Needs.{needs}
-use Rattle.checker.proofs.node.Laws.{builtin-known, builtin-unknown, builtin-small}
+use Rattle.checker.proofs.node.Laws.{builtin-known, builtin-unknown}
 use Rattle.checker.proofs.node.of_builtin.Statement.{statement}
 use Rattle.checker.proofs.node.of_builtin.Tie as tie
 
@@ -9,7 +9,7 @@ builtin-arity-requires : tie.Need-builtin-arity-requires
 builtin-arity-requires c κs = search needs
 
 returns : tie.Need-returns
-returns c = (builtin-known _ (c .before .if1 .taken) _ (c .builtin-arity .ensures), (omega (arith, builtin-small _ (c .before .if1 .taken), c .builtin-arity .ensures), omega arith))
+returns c = (builtin-known _ (c .before .if1 .taken) _ (c .builtin-arity .ensures .0), (omega (arith, c .builtin-arity .ensures .1), omega arith))
 
 returns-2 : tie.Need-returns-2
 returns-2 c = (builtin-unknown _ (c .if1 .left), tt)

@@ -10,7 +10,7 @@ use Rattle.translator.proofs.Counts.{exn-count}
 use Rattle.translator.proofs.lengths.exception_length.Statement.{statement}
 use Rattle.translator.proofs.lengths.exception_length.Tie as tie
 
-counts : (c : tie.After-wider) → let k = c .size-of-word .result in (17 * k + 10 * k * k ≡ length (storedRules (exnRules k))) × (10 * k * k ≤ 2560)
+counts : (c : tie.After-size-of-word) → let k = c .size-of-word .result in (17 * k + 10 * k * k ≡ length (storedRules (exnRules k))) × (10 * k * k ≤ 2560)
 counts c = exn-count (c .size-of-word .result) (omega (arith, c .size-of-word .ensures .0))
 
 size-of-word-requires : tie.Need-size-of-word-requires

@@ -8,15 +8,15 @@ use Rattle.translator.proofs.Counts.{product-le, fun-count}
 use Rattle.translator.proofs.lengths.function_length.Statement.{statement}
 use Rattle.translator.proofs.lengths.function_length.Tie as tie
 
-is-arity : (c : tie.After-wider) → let a = c .before .before .before .before .before .before .args in c .size-of-word .result ≡ getD (a .arities .now) (16 + a .f) 0
+is-arity : (c : tie.After-size-of-word) → let a = c .before .before .before .before .before .before .args in c .size-of-word .result ≡ getD (a .arities .now) (16 + a .f) 0
 is-arity c = c .size-of-word .ensures .0 ∙ c .before .word-of-byte .ensures .0 ∙ c .before .before .arity-of .ensures
 
-small : (c : tie.After-wider) → c .size-of-word .result ≤ 4
+small : (c : tie.After-size-of-word) → c .size-of-word .result ≤ 4
 small c =
     let at = c .before .before .before .before .before .before in
     omega (arith, at .pre .1, is-arity c)
 
-product : (c : tie.After-wider) → c .size-of-word .result * (2 * c .size-of-word .result + 7) ≤ 60
+product : (c : tie.After-size-of-word) → c .size-of-word .result * (2 * c .size-of-word .result + 7) ≤ 60
 product c = product-le (c .size-of-word .result) (small c)
 
 arity-of-requires : tie.Need-arity-of-requires

@@ -15,20 +15,20 @@ use Rattle.translator.proofs.rules.function_rules.Statement.{statement}
 use Rattle.translator.proofs.rules.function_rules.Tie as tie
 
 -- the words of the two
-abbrev first : (c : tie.After-wide2) → List ℕ
+abbrev first : (c : tie.After-word-of-byte2) → List ℕ
 first c = storedRules (callRules (16 + c .before .before .word-of-byte .result) (c .word-of-byte2 .result))
 
-abbrev last : (c : tie.After-wide2) → List ℕ
+abbrev last : (c : tie.After-word-of-byte2) → List ℕ
 last c = let a = c .before .before .before .before .before .before .before .args in rulesWords (a .f) (c .before .arity-of .result) (rulesIn (a .program .now))
 
-all : (c : tie.After-wide2) → let a = c .before .before .before .before .before .before .before .args in storedRules (rulesFor (a .arities .now) (a .program .now) (a .f)) ≡ first c ++ last c
+all : (c : tie.After-word-of-byte2) → let a = c .before .before .before .before .before .before .before .args in storedRules (rulesFor (a .arities .now) (a .program .now) (a .f)) ≡ first c ++ last c
 all c =
     let a = c .before .before .before .before .before .before .before .args in
     let n = c .before .arity-of .ensures in
     fun-words (a .arities .now) (a .program .now) (a .f) (16 + c .before .before .word-of-byte .result) (c .word-of-byte2 .result) (c .before .arity-of .result)
     (ap (16 +_) (c .before .before .word-of-byte .ensures .0)) (c .word-of-byte2 .ensures .0 ∙ n) n
 
-room : (c : tie.After-wide2) → let a = c .before .before .before .before .before .before .before .args in Room (first c ++ last c) (a .at) (a .dst .now)
+room : (c : tie.After-word-of-byte2) → let a = c .before .before .before .before .before .before .before .args in Room (first c ++ last c) (a .at) (a .dst .now)
 room c = let at = c .before .before .before .before .before .before .before in room-as (at .args .at) (at .args .dst .now) (all c) (at .pre .1)
 
 word-of-byte-requires : tie.Need-word-of-byte-requires

@@ -11,7 +11,7 @@ use Rattle.translator.proofs.rules.put_rule_if.Statement.{statement}
 use Rattle.translator.proofs.rules.put_rule_if.Tie as tie
 
 -- the words that are written
-same : (c : tie.After-wide) → let a = c .before .before .before .before .before .before .before .args in
+same : (c : tie.After-word-of-byte) → let a = c .before .before .before .before .before .before .before .args in
     ruleIf (a .arities .now) (a .program .now) (a .p) (a .f) (a .n) ≡ storedRule (ruleAt (a .arities .now) (a .program .now) (a .p) (16 + c .word-of-byte .result) (a .n))
 same c =
     let a = c .before .before .before .before .before .before .before .args in
