@@ -14,7 +14,7 @@ pub const KINDS: [(&str, usize); 11] = [
     ("cut", 6),
     ("lengthened", 4),
     ("announced", 6),
-    ("edge", 7),
+    ("edge", 8),
     ("too-long", 3),
     ("short", 2),
     ("over-ceiling", 3),
@@ -174,6 +174,12 @@ fn edge(random: &mut Random, i: usize) -> Vec<u8> {
         }
         4 => frame(&program, &[]),
         5 => frame(&[], &question),
+        // One byte fewer than announced.
+        6 => {
+            let mut input = frame(&program, &[]);
+            input.pop();
+            input
+        }
         // All bytes of the input used: the longest program and question.
         _ => {
             let mut program = program;
