@@ -8,6 +8,7 @@
 #include <stdint.h>
 #include <stdio.h>
 
+/* OWN words are enough for every own list (proved), ROOM words for every room. */
 enum { LINE = 60000, OWN = 15504, ROOM = 4096 };
 
 /* The words of a report, as puffinest.h numbers them. */

@@ -62,7 +62,8 @@ pub fn compare(inputs: [impl BufRead; 3], output: &mut impl Write) -> io::Result
         }
         tally.add(expected.as_deref().unwrap_or_default());
         if case.is_none() || expected != found {
-            differences.add(number, [case, expected, found]);
+            let length = case.as_ref().map_or(0, Vec::len);
+            differences.add(number, length, [case, expected, found]);
         }
     }
     tally.print(output)?;
@@ -169,9 +170,9 @@ pub(crate) struct Differences {
 }
 
 impl Differences {
-    pub(crate) fn add(&mut self, number: u64, lines: [Option<Vec<u8>>; 3]) {
+    /// A case by its number and length, with what was expected and found.
+    pub(crate) fn add(&mut self, number: u64, length: usize, lines: [Option<Vec<u8>>; 3]) {
         self.count += 1;
-        let length = lines[0].as_ref().map_or(0, Vec::len);
         self.shortest.insert((length, number), lines);
         if self.shortest.len() > SHOWN {
             self.shortest.pop_last();

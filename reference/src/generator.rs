@@ -439,7 +439,8 @@ fn term(
                 Sort::Truth => random.pick(&[3, 4, 5]),
             };
             bytes.extend([BUILTIN, number]);
-            for part in random.split(words - 1, 2) {
+            let arity = builtins()[usize::from(number)].arity;
+            for part in random.split(words - 1, arity) {
                 term(random, shape, scope, Sort::Number, part, bytes);
             }
         }

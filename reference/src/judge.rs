@@ -79,7 +79,7 @@ pub fn judge(
         if printed.as_deref() != Some(expected.as_bytes()) {
             let shown = format!("{name}: {}", to_hex(&input));
             let lines = [Some(shown.into()), Some(expected.into()), printed];
-            differences.add(number, lines);
+            differences.add(number, input.len(), lines);
         }
     }
     kinds.print(output, "kinds")?;
