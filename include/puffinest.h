@@ -14,9 +14,9 @@
  *
  * A slice is a pointer and how many elements it has there. With 0 elements the pointer may be NULL: nothing is read or written there.
  *
- * Stack: let the calling thread have 4 MB. Measured, not proved, in the deepest forms tried: 3.4 MB for puffinest_evaluate with 1,000
- * levels (calls in the fourth argument of calls; 1.1 MB for g(x) -> g(x)), falling in proportion with fewer levels; 0.25 MB for
- * puffinest_rewrite. No other memory is taken. */
+ * Stack: let the calling thread have 4 MB. Measured, not proved, in the deepest forms tried: puffinest_evaluate took 3.4 MB with 1,000
+ * levels (calls in the fourth argument of calls; g(x) -> g(x) took 1.1 MB), and less in proportion with fewer; puffinest_rewrite took
+ * 0.25 MB. Either takes up to 0.25 MB to read a question, whatever is allowed. No other memory is taken. */
 #ifndef PUFFINEST_H
 #define PUFFINEST_H
 
