@@ -8,6 +8,7 @@
 #include <stdint.h>
 #include <stdio.h>
 
+/* OWN words are enough for every own list (proved), ROOM words for every room. */
 enum { LINE = 60000, OWN = 15504, ROOM = 4096 };
 
 /* The words of a report, as puffinest.h numbers them. */
@@ -31,11 +32,12 @@ static inline int digit(char c) {
     return 16;
 }
 
+/* Bytes; false where they are more than the array holds, and nothing is written past it. */
 static inline bool read_bytes(const char *field, size_t len, Bytes *out) {
     out->len = 0;
     if (len == 1 && field[0] == '-')
         return true;
-    if (len == 0 || len % 2 != 0)
+    if (len == 0 || len % 2 != 0 || len / 2 > sizeof out->bytes)
         return false;
     for (size_t i = 0; i < len; i += 2) {
         int high = digit(field[i]), low = digit(field[i + 1]);
@@ -60,10 +62,12 @@ static inline bool read_number(const char *field, size_t len, uint32_t *out) {
     return len > 0;
 }
 
-/* The eight fields of a line of so many characters, and nothing behind the last. */
+/* The eight fields of a line of so many characters, and nothing behind the last; false too where it has more than LINE characters. */
 static inline bool read_case(const char *line, size_t len, Case *out) {
     uint32_t *const numbers[] = {&out->steps, &out->levels, &out->room, &out->own, &out->first, &out->second};
     size_t at = 0;
+    if (len > LINE)
+        return false;
     for (int k = 0; k < 8; k++) {
         if (at > len)
             return false;

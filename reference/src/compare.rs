@@ -6,7 +6,7 @@ use std::fs::File;
 use std::io::{self, BufRead, BufReader, Write};
 
 /// From so many cases on, everything that can occur has to.
-const TELLING: u64 = 2_000;
+pub(crate) const TELLING: u64 = 2_000;
 
 /// How many differences are shown, how many bytes of each line, and how many of
 /// those before the first that differs, where that one would not be seen.
@@ -20,9 +20,12 @@ const REFUSALS: [&str; 13] = [
 ];
 const NO_CASE: [&str; 2] = ["bad", "too"];
 
+/// A row and a column of the counts.
+pub(crate) type Cell = (&'static str, &'static str);
+
 /// What cannot occur: the evaluator has no room, the rewriter no levels, and a
 /// question is never refused by the numbers here.
-const NEVER: [(&str, &str); 9] = [
+pub(crate) const NEVER: [Cell; 9] = [
     ("evaluator", "big"),
     ("rewriter", "deep"),
     ("question", "1"),
@@ -49,7 +52,7 @@ fn open(path: &str) -> io::Result<BufReader<File>> {
 /// The same for cases, expected answers and found ones, line by line.
 pub fn compare(inputs: [impl BufRead; 3], output: &mut impl Write) -> io::Result<bool> {
     let mut lines = inputs.map(|input| input.split(b'\n'));
-    let mut tally = Tally::default();
+    let mut tally = Tally::new(&NEVER);
     let mut differences = Differences::default();
     for number in 1.. {
         let [case, expected, found] = lines.each_mut().map(|lines| lines.next().transpose());
@@ -59,24 +62,36 @@ pub fn compare(inputs: [impl BufRead; 3], output: &mut impl Write) -> io::Result
         }
         tally.add(expected.as_deref().unwrap_or_default());
         if case.is_none() || expected != found {
-            differences.add(number, [case, expected, found]);
+            let length = case.as_ref().map_or(0, Vec::len);
+            differences.add(number, length, [case, expected, found]);
         }
     }
     tally.print(output)?;
+    let [bad, long] = NO_CASE.map(|first| tally.get("no case", first));
+    writeln!(output, "no case: {bad} bad lines, {long} too long")?;
     differences.print(output)?;
     let telling = tally.lines < TELLING || tally.is_full(output)?;
-    Ok(differences.count == 0 && telling)
+    // No cases are no test.
+    Ok(tally.lines > 0 && differences.count == 0 && telling)
 }
 
 /// How often each kind of answer occurred.
-#[derive(Default)]
-struct Tally {
-    lines: u64,
+pub(crate) struct Tally {
+    pub(crate) lines: u64,
     counts: BTreeMap<(String, String), u64>,
+    never: Vec<Cell>,
 }
 
 impl Tally {
-    fn add(&mut self, answer: &[u8]) {
+    pub(crate) fn new(never: &[Cell]) -> Tally {
+        Tally {
+            lines: 0,
+            counts: BTreeMap::new(),
+            never: never.to_vec(),
+        }
+    }
+
+    pub(crate) fn add(&mut self, answer: &[u8]) {
         self.lines += 1;
         let answer = String::from_utf8_lossy(answer);
         let words: Vec<&str> = answer.split(' ').take(7).collect();
@@ -100,24 +115,22 @@ impl Tally {
         self.counts.get(&key).copied().unwrap_or_default()
     }
 
-    fn print(&self, output: &mut impl Write) -> io::Result<()> {
+    pub(crate) fn print(&self, output: &mut impl Write) -> io::Result<()> {
         self.table(output, "ending", ["evaluator", "rewriter"], &ENDINGS)?;
-        self.table(output, "refusal", ["program", "question"], &REFUSALS)?;
-        let [bad, long] = NO_CASE.map(|first| self.get("no case", first));
-        writeln!(output, "no case: {bad} bad lines, {long} too long")
+        self.table(output, "refusal", ["program", "question"], &REFUSALS)
     }
 
     fn table(
         &self,
         output: &mut impl Write,
         title: &str,
-        rows: [&str; 2],
-        columns: &[&str],
+        rows: [&'static str; 2],
+        columns: &[&'static str],
     ) -> io::Result<()> {
         let heads: String = columns.iter().map(|c| format!(" {c:>5}")).collect();
         writeln!(output, "{title:<9}{heads}")?;
         for row in rows {
-            let cell = |column: &&str| match NEVER.contains(&(row, column)) {
+            let cell = |column: &&'static str| match self.never.contains(&(row, column)) {
                 true => format!(" {:>1$}", "-", column.len().max(5)),
                 false => format!(" {:>1$}", self.get(row, column), column.len().max(5)),
             };
@@ -128,7 +141,7 @@ impl Tally {
     }
 
     /// Whether everything occurred that can; says what did not.
-    fn is_full(&self, output: &mut impl Write) -> io::Result<bool> {
+    pub(crate) fn is_full(&self, output: &mut impl Write) -> io::Result<bool> {
         let rows: [(&str, &[&str]); 5] = [
             ("evaluator", &ENDINGS),
             ("rewriter", &ENDINGS),
@@ -139,7 +152,7 @@ impl Tally {
         let mut full = true;
         for (row, columns) in rows {
             for column in columns {
-                if self.get(row, column) == 0 && !NEVER.contains(&(row, column)) {
+                if self.get(row, column) == 0 && !self.never.contains(&(row, column)) {
                     writeln!(output, "never in {} lines: {row} {column}", self.lines)?;
                     full = false;
                 }
@@ -151,22 +164,22 @@ impl Tally {
 
 /// The differing lines: how many, and those with the shortest cases.
 #[derive(Default)]
-struct Differences {
-    count: u64,
+pub(crate) struct Differences {
+    pub(crate) count: u64,
     shortest: BTreeMap<(usize, u64), [Option<Vec<u8>>; 3]>,
 }
 
 impl Differences {
-    fn add(&mut self, number: u64, lines: [Option<Vec<u8>>; 3]) {
+    /// A case by its number and length, with what was expected and found.
+    pub(crate) fn add(&mut self, number: u64, length: usize, lines: [Option<Vec<u8>>; 3]) {
         self.count += 1;
-        let length = lines[0].as_ref().map_or(0, Vec::len);
         self.shortest.insert((length, number), lines);
         if self.shortest.len() > SHOWN {
             self.shortest.pop_last();
         }
     }
 
-    fn print(&self, output: &mut impl Write) -> io::Result<()> {
+    pub(crate) fn print(&self, output: &mut impl Write) -> io::Result<()> {
         for ((length, number), [case, expected, found]) in &self.shortest {
             let from = first_shown(expected, found);
             writeln!(output, "line {number}, {length} bytes: {}", text(case, 0))?;

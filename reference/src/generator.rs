@@ -82,14 +82,19 @@ pub fn line(random: &mut Random) -> Vec<u8> {
 
 /// One random case.
 pub fn case(random: &mut Random) -> Case {
-    let (program, question) = match random.below(100) {
+    let (program, question) = strings(random);
+    with_allowances(random, program, question)
+}
+
+/// A random program and question, sound or not.
+pub fn strings(random: &mut Random) -> (Vec<u8>, Vec<u8>) {
+    match random.below(100) {
         0..=61 => sound(random),
         62..=76 => damaged(random),
         77..=82 => loose_records(random),
         83..=85 => random_bytes(random),
         _ => ceiling(random),
-    };
-    with_allowances(random, program, question)
+    }
 }
 
 // ---------------------------------------------------------------- sound cases
@@ -176,7 +181,7 @@ fn shape(random: &mut Random, exceptions: usize, functions: usize) -> Shape {
     }
 }
 
-fn sound(random: &mut Random) -> (Vec<u8>, Vec<u8>) {
+pub fn sound(random: &mut Random) -> (Vec<u8>, Vec<u8>) {
     let (exceptions, functions, rules) = match random.below(100) {
         0..=34 => (
             random.between(0, 2),
@@ -434,7 +439,8 @@ fn term(
                 Sort::Truth => random.pick(&[3, 4, 5]),
             };
             bytes.extend([BUILTIN, number]);
-            for part in random.split(words - 1, 2) {
+            let arity = builtins()[usize::from(number)].arity;
+            for part in random.split(words - 1, arity) {
                 term(random, shape, scope, Sort::Number, part, bytes);
             }
         }
@@ -994,7 +1000,7 @@ fn right_ceiling(random: &mut Random, past: usize) -> (Vec<u8>, Vec<u8>) {
 
 /// A function that calls itself ever deeper: terms as large as any room, with
 /// a path as long.
-fn growing(random: &mut Random) -> (Vec<u8>, Vec<u8>) {
+pub fn growing(random: &mut Random) -> (Vec<u8>, Vec<u8>) {
     let (root, rest, words): (&[u8], &[u8], usize) = random.pick(&[
         (&[SUCC], &[], 1),
         (&[BUILTIN, 2], &[], 1),

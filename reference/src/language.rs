@@ -115,11 +115,8 @@ pub struct Answer {
     pub steps: u64,
 }
 
-/// Arities of the built-ins `+`, `*`, `not`, `<=`, `<`, `=`.
-pub const BUILTIN_ARITY: [usize; 6] = [2, 2, 1, 2, 2, 2];
-
 /// The built-in functions 0 to 5 with their rules. Variables are numbered by
-/// first appearance on the left.
+/// first appearance on the left. A built-in's arity is that of its rules.
 pub fn builtins() -> &'static [Function] {
     static BUILTINS: OnceLock<Vec<Function>> = OnceLock::new();
     BUILTINS.get_or_init(|| {
@@ -170,11 +167,10 @@ pub fn builtins() -> &'static [Function] {
                 rule(vec![succ(v(0)), succ(v(1))], call(5, v(0), v(1))),
             ],
         ];
-        let with_arity = |(arity, rules)| Function { arity, rules };
-        BUILTIN_ARITY
-            .into_iter()
-            .zip(rules)
-            .map(with_arity)
-            .collect()
+        let with_arity = |rules: Vec<Rule>| Function {
+            arity: rules[0].left.len(),
+            rules,
+        };
+        rules.into_iter().map(with_arity).collect()
     })
 }

@@ -9,6 +9,8 @@ pub mod checker;
 pub mod compare;
 pub mod evaluator;
 pub mod generator;
+pub mod inputs;
+pub mod judge;
 pub mod language;
 pub mod lines;
 pub mod rewriter;

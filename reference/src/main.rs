@@ -1,16 +1,20 @@
 //! The command: `answers` answers case lines, `generate SEED N` prints random
 //! lines, `compare CASES EXPECTED FOUND` holds answers against ours, `program`
-//! is document 01's program. Status 1: a line is no case, or answers differ;
-//! status 2: bad usage, or the input or the output fails.
+//! is document 01's program, `inputs SEED N FOLDER` writes random inputs of it
+//! as files, `judge FOLDER FOUND` holds what was printed for them against ours.
+//! Status 1: a line is no case, or answers differ; status 2: bad usage, or the
+//! input or the output fails.
 
 use reference::compare;
 use reference::generator::{self, Random};
+use reference::judge;
 use reference::lines;
 use std::io::{self, BufWriter, Read, Write};
 use std::process::ExitCode;
 
 const USAGE: &str = "usage: reference answers | reference generate SEED N | \
-                     reference compare CASES EXPECTED FOUND | reference program";
+                     reference compare CASES EXPECTED FOUND | reference program | \
+                     reference inputs SEED N FOLDER | reference judge FOLDER FOUND";
 
 fn main() -> ExitCode {
     let arguments: Vec<String> = std::env::args().skip(1).collect();
@@ -23,6 +27,11 @@ fn main() -> ExitCode {
             _ => return usage(),
         },
         ["compare", cases, expected, found] => compare::files(cases, expected, found),
+        ["inputs", seed, count, folder] => match (seed.parse(), count.parse()) {
+            (Ok(seed), Ok(count)) => judge::write(seed, count, folder),
+            _ => return usage(),
+        },
+        ["judge", asked, found] => judge::folders(asked, found),
         _ => return usage(),
     };
     match done {
@@ -69,7 +78,8 @@ fn generate(seed: u64, count: u64) -> io::Result<bool> {
 fn program() -> io::Result<bool> {
     let mut input = Vec::new();
     // One byte past the most that is looked at is enough.
-    io::stdin().lock().take(9_219).read_to_end(&mut input)?;
+    let most = lines::MAX_INPUT as u64 + 1;
+    io::stdin().lock().take(most).read_to_end(&mut input)?;
     let output = lines::program_output(&input);
     io::stdout().lock().write_all(output.as_bytes())?;
     Ok(true)

@@ -43,7 +43,7 @@ impl<'a> Rules<'a> {
             parts[usize::from(word)] = count;
         }
         let declared = FIRST_DECLARED..FIRST_DECLARED + program.functions.len();
-        for number in (0..BUILTIN_ARITY.len()).chain(declared) {
+        for number in (0..builtins().len()).chain(declared) {
             let arity = program.function(number).arity;
             for auxiliary in 0..=arity + 1 {
                 parts[usize::from(function_word(number, auxiliary))] = arity as u8;

@@ -9,8 +9,9 @@ use reference::lines::{answer_all, answer_line, parse_case};
 use reference::rewriter::{self, Rules};
 use reference::translator::{own_list, term_words};
 
-/// Calls `test` on generated cases that are accepted, with their steps.
-fn accepted(seed: u64, count: usize, mut test: impl FnMut(&Program, &Term, u64)) -> usize {
+/// Calls `test` on generated cases that are accepted, with their steps: on half
+/// of them at the least, so that no test passes for want of cases.
+fn accepted(seed: u64, count: usize, mut test: impl FnMut(&Program, &Term, u64)) {
     let mut random = Random::new(seed);
     let mut tested = 0;
     for _ in 0..count {
@@ -24,13 +25,13 @@ fn accepted(seed: u64, count: usize, mut test: impl FnMut(&Program, &Term, u64))
         test(&program, &question, case.steps.min(3_000));
         tested += 1;
     }
-    tested
+    assert!(tested > count / 2, "{tested} of {count}");
 }
 
 #[test]
 fn the_two_engines_agree() {
-    let mut equal = 0;
-    let tested = accepted(2_024, 12_000, |program, question, steps| {
+    let (mut equal, mut deep_alone, mut big_alone) = (0, 0, 0);
+    accepted(2_024, 12_000, |program, question, steps| {
         let own = own_list(program);
         let rules = Rules::new(program, &own);
         let words = term_words(question);
@@ -44,17 +45,27 @@ fn the_two_engines_agree() {
                 equal += 1;
             }
             // An engine that is cut has counted no more than the other.
-            (true, false) => assert!(evaluated.steps <= rewritten.steps),
-            (false, true) => assert!(rewritten.steps <= evaluated.steps),
+            (true, false) => {
+                assert!(evaluated.steps <= rewritten.steps);
+                deep_alone += 1;
+            }
+            (false, true) => {
+                assert!(rewritten.steps <= evaluated.steps);
+                big_alone += 1;
+            }
             (true, true) => {}
         }
     });
-    assert!(tested > 6_000, "{tested}");
     assert!(equal > 5_000, "{equal}");
+    assert!(
+        deep_alone > 20 && big_alone > 20,
+        "{deep_alone} {big_alone}"
+    );
 }
 
 #[test]
 fn a_step_allowance_only_cuts() {
+    let (mut whole, mut cut) = (0, 0);
     accepted(7, 400, |program, question, _| {
         let most = 150;
         for levels in [3, 12, MAX_LEVELS] {
@@ -66,8 +77,10 @@ fn a_step_allowance_only_cuts() {
             for steps in 0..=most {
                 let found = evaluator::evaluate(program, question, steps, levels);
                 let expected = if cost <= steps {
+                    whole += 1;
                     full
                 } else {
+                    cut += 1;
                     Answer {
                         ending: Ending::OutOfSteps,
                         steps,
@@ -77,10 +90,12 @@ fn a_step_allowance_only_cuts() {
             }
         }
     });
+    assert!(whole > 10_000 && cut > 5_000, "{whole} {cut}");
 }
 
 #[test]
 fn every_step_allowance_shows_its_own_term() {
+    let (mut on_the_way, mut last_ones) = (0, 0);
     accepted(8, 400, |program, question, _| {
         let own = own_list(program);
         let rules = Rules::new(program, &own);
@@ -97,15 +112,22 @@ fn every_step_allowance_shows_its_own_term() {
                 let ending = Ending::OutOfSteps;
                 let steps = steps as u64;
                 assert_eq!(found, Answer { ending, steps });
+                on_the_way += 1;
             } else {
                 assert_eq!(found, full);
+                last_ones += 1;
             }
         }
     });
+    assert!(
+        on_the_way > 2_000 && last_ones > 150,
+        "{on_the_way} {last_ones}"
+    );
 }
 
 #[test]
 fn more_room_changes_no_term() {
+    let (mut too_big, mut whole) = (0, 0);
     accepted(9, 600, |program, question, steps| {
         let own = own_list(program);
         let rules = Rules::new(program, &own);
@@ -125,17 +147,23 @@ fn more_room_changes_no_term() {
                     assert_eq!(found, Answer { ending, steps });
                     let before = at.checked_sub(1).map(|i| terms[i].clone());
                     assert_eq!(held, before.unwrap_or_default());
+                    too_big += 1;
                 }
-                None => assert_eq!(found, full),
+                None => {
+                    assert_eq!(found, full);
+                    whole += 1;
+                }
             }
         }
     });
+    assert!(too_big > 300 && whole > 300, "{too_big} {whole}");
 }
 
 /// Reading the case back gives the case, and the same seed the same cases.
 #[test]
 fn generated_cases() {
     let (mut one, mut two) = (Random::new(5), Random::new(5));
+    let mut refused = 0;
     for _ in 0..2_000 {
         let case = generator::case(&mut one);
         assert_eq!(case, generator::case(&mut two));
@@ -143,7 +171,9 @@ fn generated_cases() {
         assert_eq!(parse_case(line.as_bytes()), Some(case));
         let answer = answer_line(line.as_bytes());
         assert!(answer.starts_with("ok ") || answer.starts_with("refused "));
+        refused += u32::from(answer.starts_with("refused "));
     }
+    assert!((400..1_600).contains(&refused), "{refused}");
 }
 
 /// Lines that are no case are among the generated ones, and each is one line.

@@ -54,6 +54,8 @@ fn lines_that_are_missing_or_too_many() {
     assert!(!equal && text.contains("found    (no line)\n"));
     assert!(!compared("a\n", OK, &two).0);
     assert!(!compared("a\n", &two, &two).0);
+    // No cases are no test.
+    assert!(!compared("", "", "").0);
 }
 
 #[test]

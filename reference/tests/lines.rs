@@ -93,6 +93,7 @@ fn stored_cases() {
     let cases = std::fs::read(folder.join("stdin")).expect("the stored cases");
     let expected = std::fs::read_to_string(folder.join("stdout")).expect("the stored answers");
     let (found, lines) = answers(&cases);
+    assert!(lines.all > 400, "{} stored cases", lines.all);
     assert_eq!(lines.all as usize, expected.lines().count());
     for (i, (found, expected)) in found.lines().zip(expected.lines()).enumerate() {
         assert_eq!(found, expected, "line {}", i + 1);

@@ -19,7 +19,7 @@ fn evaluate(program: &str, question: &str, steps: u64, levels: u64) -> Result<St
 }
 
 fn rewrite(program: &str, question: &str, steps: u64, room: u64) -> Result<String, Refusal> {
-    let mut own = vec![0; 14_000];
+    let mut own = vec![0; 15_504];
     let mut first = vec![0; 4_096];
     let mut second = vec![0; 4_096];
     calls::rewrite(

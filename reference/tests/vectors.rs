@@ -1,98 +1,193 @@
-//! The shared vectors: every case and answer, every trace, the table of sums.
-//! Their folder is named by PUFFINEST_VECTORS; without it they are skipped.
+//! Vectors: cases with their answers, each engine's answer by its own call, and
+//! the rewriter's terms on the way. They are the files of the folder that
+//! PUFFINEST_VECTORS names; without it, the repository's stored cases.
 
 use reference::calls;
 use reference::checker::{check_program, check_question};
-use reference::lines::{answer_line, answer_text, from_hex};
+use reference::lines::{answer_line, answer_text, from_hex, parse_case, Case};
 use reference::rewriter::{self, Rules};
 use reference::translator::{own_list, term_words};
-use std::io::Write;
-use std::path::PathBuf;
+use std::path::{Path, PathBuf};
 
-/// The text of a vector file, or a line saying that it is skipped.
-fn read(name: &str) -> Option<String> {
-    let Some(folder) = std::env::var_os("PUFFINEST_VECTORS") else {
-        // Written past the test harness's capture, so that it is seen.
-        let line = format!("SKIPPED {name}: PUFFINEST_VECTORS is not set\n");
-        let mut stderr = std::io::stderr();
-        stderr.write_all(line.as_bytes()).unwrap();
-        return None;
-    };
-    let path = PathBuf::from(folder).join(name);
+/// The words of a list in decimal; "-" for none.
+fn words(text: &str, between: char) -> Vec<u16> {
+    match text {
+        "-" => Vec::new(),
+        _ => text
+            .split(between)
+            .map(|word| word.parse().unwrap())
+            .collect(),
+    }
+}
+
+fn read(path: PathBuf) -> String {
     match std::fs::read_to_string(&path) {
-        Ok(text) => Some(text),
+        Ok(text) => text,
         Err(error) => panic!("{}: {error}", path.display()),
     }
 }
 
+/// The text of a vector file, where a folder of them is named.
+fn vectors(name: &str) -> Option<String> {
+    let folder = std::env::var_os("PUFFINEST_VECTORS")?;
+    Some(read(PathBuf::from(folder).join(name)))
+}
+
+/// A file of the repository's stored cases.
+fn stored(name: &str) -> String {
+    read(
+        Path::new(env!("CARGO_MANIFEST_DIR"))
+            .join("../crates/answers")
+            .join(name),
+    )
+}
+
+/// Each line of cases and its answer, at least 400 of them.
+fn cases() -> Vec<(String, String)> {
+    let cases = vectors("cases.txt").unwrap_or_else(|| stored("stdin"));
+    let answers = vectors("answers.txt").unwrap_or_else(|| stored("stdout"));
+    // Not `lines`, which would take a CR off.
+    let lines = |text: String| -> Vec<String> {
+        let text = text.strip_suffix('\n').unwrap_or(&text);
+        text.split('\n').map(str::to_string).collect()
+    };
+    let (cases, answers) = (lines(cases), lines(answers));
+    assert_eq!(cases.len(), answers.len());
+    assert!(cases.len() >= 400, "{} cases", cases.len());
+    cases.into_iter().zip(answers).collect()
+}
+
+/// The cases that are accepted, each with the five fields of its answer.
+fn accepted() -> Vec<(Case, Vec<String>)> {
+    let fields = |(line, answer): (String, String)| {
+        let fields = answer.strip_prefix("ok ")?.split(" ; ");
+        let case = parse_case(line.as_bytes()).expect("an accepted case");
+        Some((case, fields.map(str::to_string).collect()))
+    };
+    cases().into_iter().filter_map(fields).collect()
+}
+
 #[test]
 fn cases_and_answers() {
-    let (Some(cases), Some(answers)) = (read("cases.txt"), read("answers.txt")) else {
-        return;
-    };
-    assert_eq!(cases.lines().count(), answers.lines().count());
-    for (i, (case, answer)) in cases.lines().zip(answers.lines()).enumerate() {
-        assert_eq!(answer_line(case.as_bytes()), answer, "line {}", i + 1);
+    for (i, (case, answer)) in cases().iter().enumerate() {
+        assert_eq!(answer_line(case.as_bytes()), *answer, "line {}", i + 1);
     }
+}
+
+/// What the evaluator's call says and what the rewriter's says.
+fn check_sum(case: &Case, expected: [&str; 2]) {
+    let Case {
+        program,
+        question,
+        steps,
+        ..
+    } = case;
+    let evaluated = calls::evaluate(program, question, *steps, case.levels);
+    assert_eq!(answer_text(evaluated.unwrap()), expected[0], "{case}");
+    let [mut own, mut first, mut second] =
+        [case.own, case.first, case.second].map(|length| vec![0; length.min(65_536) as usize]);
+    let rewritten = calls::rewrite(
+        program,
+        question,
+        *steps,
+        case.room,
+        &mut own,
+        &mut first,
+        &mut second,
+    );
+    assert_eq!(answer_text(rewritten.unwrap()), expected[1], "{case}");
 }
 
 #[test]
 fn sums() {
-    let Some(sums) = read("sums.txt") else { return };
-    for line in sums.lines() {
-        let fields: Vec<&str> = line.split(" | ").collect();
-        let (program, question) = fields[1].split_once(' ').unwrap();
-        let program = from_hex(program.as_bytes()).unwrap();
-        let question = from_hex(question.as_bytes()).unwrap();
-        let mut own = vec![0; 14_000];
-        let mut first = vec![0; 4_096];
-        let mut second = vec![0; 4_096];
-        let (evaluated, rewritten) = calls::both(
-            &program,
-            &question,
-            100_000,
-            500,
-            4_096,
-            &mut own,
-            &mut first,
-            &mut second,
-        )
-        .unwrap();
-        let answer = format!("ok {} ; {}", answer_text(evaluated), answer_text(rewritten));
-        assert_eq!(answer, fields[2].trim_end(), "{}", fields[0]);
+    let mut tested = 0;
+    match vectors("sums.txt") {
+        Some(sums) => {
+            for line in sums.lines() {
+                let fields: Vec<&str> = line.split(" | ").collect();
+                let numbers = "100000 500 4096 15504 4096 4096";
+                let case = parse_case(format!("{} {numbers}", fields[1]).as_bytes()).unwrap();
+                let expected = fields[2].trim_end().strip_prefix("ok ").unwrap();
+                let (evaluated, rewritten) = expected.split_once(" ; ").unwrap();
+                check_sum(&case, [evaluated, rewritten]);
+                tested += 1;
+            }
+            assert!(tested >= 15, "{tested} sums");
+        }
+        None => {
+            for (case, fields) in accepted() {
+                check_sum(&case, [&fields[0], &fields[1]]);
+                tested += 1;
+            }
+            assert!(tested >= 200, "{tested} accepted cases");
+        }
     }
 }
 
 #[test]
 fn traces() {
-    let Some(traces) = read("traces.txt") else {
-        return;
-    };
-    let mut lines = traces.lines();
-    while let Some(head) = lines.next() {
-        let fields: Vec<&str> = head.split(' ').collect();
-        let program = check_program(&from_hex(fields[0].as_bytes()).unwrap()).unwrap();
-        let question = from_hex(fields[1].as_bytes()).unwrap();
-        let question = term_words(&check_question(&program, &question).unwrap());
-        let last: u64 = fields[2].parse().unwrap();
-        let own = own_list(&program);
-        let rules = Rules::new(&program, &own);
-        let mut seen = Vec::new();
-        rewriter::rewrite(&rules, &question, last, 4_096, |term| {
-            seen.push(term.to_vec())
-        });
-        assert_eq!(seen.len() as u64, last + 1, "{head}");
-        for (steps, term) in seen.iter().enumerate() {
-            let words: Vec<u16> = lines
-                .next()
-                .unwrap()
-                .split(' ')
-                .map(|word| word.parse().unwrap())
-                .collect();
-            assert_eq!(*term, words, "{head}, step {steps}");
-            // The same term is the last one under that step allowance.
-            let (_, held) = rewriter::rewrite(&rules, &question, steps as u64, 4_096, |_| {});
-            assert_eq!(held, words);
+    let mut tested = 0;
+    match vectors("traces.txt") {
+        Some(traces) => {
+            let mut lines = traces.lines();
+            while let Some(head) = lines.next() {
+                check_trace(head, &mut lines);
+                tested += 1;
+            }
+            assert!(tested >= 10, "{tested} traces");
         }
+        None => {
+            // The last term is the one that is seen at that step on the way.
+            for (case, fields) in accepted() {
+                if fields[1].starts_with("big") {
+                    continue;
+                }
+                let steps: usize = fields[1].rsplit(' ').next().unwrap().parse().unwrap();
+                let last = words(&fields[3], ',');
+                assert_eq!(seen_at(&case, steps), last, "{case}");
+                tested += 1;
+            }
+            assert!(tested >= 150, "{tested} accepted cases with a last term");
+        }
+    }
+}
+
+/// The term after so many steps, as it is seen on the way.
+fn seen_at(case: &Case, steps: usize) -> Vec<u16> {
+    let program = check_program(&case.program).unwrap();
+    let question = term_words(&check_question(&program, &case.question).unwrap());
+    let own = own_list(&program);
+    let rules = Rules::new(&program, &own);
+    let (mut seen, mut terms) = (Vec::new(), 0);
+    rewriter::rewrite(&rules, &question, case.steps, case.room as usize, |term| {
+        if terms == steps {
+            seen = term.to_vec();
+        }
+        terms += 1;
+    });
+    assert_eq!(terms, steps + 1, "{case}");
+    seen
+}
+
+/// A line `PROGRAM QUESTION N`, then N + 1 lines of words.
+fn check_trace<'a>(head: &str, lines: &mut impl Iterator<Item = &'a str>) {
+    let fields: Vec<&str> = head.split(' ').collect();
+    let program = check_program(&from_hex(fields[0].as_bytes()).unwrap()).unwrap();
+    let question = from_hex(fields[1].as_bytes()).unwrap();
+    let question = term_words(&check_question(&program, &question).unwrap());
+    let last: u64 = fields[2].parse().unwrap();
+    let own = own_list(&program);
+    let rules = Rules::new(&program, &own);
+    let mut seen = Vec::new();
+    rewriter::rewrite(&rules, &question, last, 4_096, |term| {
+        seen.push(term.to_vec())
+    });
+    assert_eq!(seen.len() as u64, last + 1, "{head}");
+    for (steps, term) in seen.iter().enumerate() {
+        let expected = words(lines.next().unwrap(), ' ');
+        assert_eq!(*term, expected, "{head}, step {steps}");
+        // The same term is the last one under that step allowance.
+        let (_, held) = rewriter::rewrite(&rules, &question, steps as u64, 4_096, |_| {});
+        assert_eq!(held, expected);
     }
 }

@@ -19,8 +19,9 @@ mod report;
 
 pub use report::{About, Answer, Base, Ending, Reason, Refusal};
 
-/// The most words that an own list can have.
-pub const LONGEST_OWN_LIST: usize = 13_263;
+/// So many words are always enough for an own list (proved); the longest one
+/// seen has 13,263.
+pub const ENOUGH_FOR_OWN: usize = 15_504;
 
 /// The evaluator's answer. Allowances: `steps` up to 1,000,000, `levels` from 1
 /// to 1,000.

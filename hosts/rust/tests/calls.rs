@@ -1,7 +1,7 @@
 //! The two calls: document 01's worked example, each refusal, what the lent
 //! slices hold afterwards, and the deepest runs.
 
-use puffinest::{evaluate, rewrite, Answer, Base, Ending, Reason, Refusal, LONGEST_OWN_LIST};
+use puffinest::{evaluate, rewrite, Answer, Base, Ending, Reason, Refusal, ENOUGH_FOR_OWN};
 
 /// What the lent words hold before a call: no symbol.
 const MARK: u16 = 0xabcd;
@@ -32,7 +32,7 @@ impl Lent {
     }
 
     fn enough() -> Lent {
-        Lent::new(LONGEST_OWN_LIST, 4_096, 4_096)
+        Lent::new(ENOUGH_FOR_OWN, 4_096, 4_096)
     }
 
     fn rewrite(
@@ -191,6 +191,21 @@ fn the_words_afterwards() {
     }
 }
 
+/// Nothing lent where nothing is needed, and strings of no bytes.
+#[test]
+fn empty_slices() {
+    let empty = |program: &[u8], question: &[u8]| {
+        let evaluated = evaluate(program, question, 9, 9);
+        let rewritten = Lent::enough().rewrite(program, question, 9, 9);
+        assert_eq!(evaluated, rewritten);
+        evaluated.unwrap_err().to_string()
+    };
+    assert_eq!(empty(&[], &[]), "refused program 2 0");
+    assert_eq!(empty(&[4], &[]), "refused question 2 0");
+    let found = Lent::new(0, 9, 9).rewrite(&[4], &[0x11, 0x10], 9, 9);
+    assert_eq!(found.unwrap().to_string(), "value 1 zero 0");
+}
+
 /// A function that calls itself inside so many roots.
 fn growing(root: &str, count: usize, rest: &str) -> Vec<u8> {
     let (roots, rests) = (root.repeat(count), rest.repeat(count));
@@ -208,6 +223,11 @@ fn the_deepest_runs() {
             let rewritten = Lent::enough().rewrite(&program, &question, 1_000_000, 4_096);
             assert_eq!(rewritten.unwrap().ending, Ending::TooBig, "{root}");
         }
+        // Calls in the fourth argument of calls.
+        let nested = "1900 10 10 10".repeat(31);
+        let program = bytes(&["020004 020100 0301", &nested, "1901 04"].concat());
+        let evaluated = evaluate(&program, &bytes("1901"), 1_000_000, 1_000);
+        assert_eq!(evaluated.unwrap().ending, Ending::TooDeep);
     };
     let little = std::thread::Builder::new().stack_size(256 << 10);
     little.spawn(run).unwrap().join().unwrap();

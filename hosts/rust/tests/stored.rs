@@ -105,6 +105,7 @@ fn stored_cases() {
         .split('\n')
         .collect();
     let answers: Vec<&str> = answers.lines().collect();
+    assert!(cases.len() > 400, "{} stored cases", cases.len());
     assert_eq!(cases.len(), answers.len());
     for (i, (case, expected)) in cases.iter().zip(answers).enumerate() {
         assert_eq!(answer(case), expected, "line {}", i + 1);
