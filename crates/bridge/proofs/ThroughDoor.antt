@@ -1,7 +1,7 @@
 -- THE CALLS THROUGH THE DOOR: what stands in the report's words afterwards. Where the report has fewer than 7 words nothing at all changes; else
 -- its first 7 words are the call's report, to which all that is shown of reports applies, and the words past them are as they were.
 use Prim.Native.Nat.{ℕ, _≤_, _<_}
-use mathlib.Core.Path.{_≡_, refl, sym, ap, _∙_, subst}
+use mathlib.Core.Path.{_≡_, refl, sym, ap, _∙_}
 use mathlib.Core.Logic.{_↔_, _≢_, _⊎_, inl, inr}
 use mathlib.Core.Bool.{Bool, true, false}
 use mathlib.Core.List.{List, [], _∷_}
@@ -12,12 +12,13 @@ use borrow.Author.Tests.{leb-true, leb-false, le-leb, lt-leb}
 use Rattle.theory.specs.Syntax.{pick}
 use Rattle.theory.specs.Buffers.{over}
 use Rattle.theory.specs.Bytes.{good, Book, readProgram}
-use Rattle.theory.specs.Answers.{Reply, evaluate, Rewritten, rewrite}
-use Rattle.theory.specs.Demands.{Accepted, EvaluateInRange, RewriteInRange, LongEnough}
+use Rattle.theory.specs.Answers.{About, Reply, evaluate, Rewritten, rewrite}
+use Rattle.theory.specs.Demands.{Accepted, RefusedByReading, EvaluateInRange, RewriteInRange, LongEnough}
 use Rattle.bridge.specs.declared.report.Report.{Report}
-use Rattle.bridge.specs.Report.{refusalReport, reportOf, reportWords}
+use Rattle.bridge.specs.Report.{aboutNumber, refusalReport, reportOf, reportWords}
 use Rattle.bridge.specs.Calls.{told, opened, Leaves, Opens}
-use Rattle.bridge.proofs.Calls.{IsAnswer, Refuses, Answers, evaluate-report-refuses, evaluate-report-answers, evaluate-report-answers-exactly, evaluate-report-12-exactly, evaluate-report-never-13, rewrite-report-refuses, rewrite-report-answers, rewrite-report-answers-exactly, rewrite-report-12-exactly, rewrite-report-13-exactly, larger-allowances-evaluate-report, larger-allowances-rewrite-report, reports-agree}
+use Rattle.bridge.proofs.Reports.{IsAnswer, Refuses, Answers}
+use Rattle.bridge.proofs.Calls.{evaluate-report-refuses, evaluate-report-answers, evaluate-report-answers-exactly, evaluate-report-12-exactly, evaluate-report-never-13, evaluate-report-as-read-exactly, rewrite-report-refuses, rewrite-report-answers, rewrite-report-answers-exactly, rewrite-report-12-exactly, rewrite-report-13-exactly, rewrite-report-as-read-exactly, larger-allowances-evaluate-report, larger-allowances-rewrite-report, reports-agree}
 
 -- the report in words 0 to 6 of a slice
 abbrev pub reportIn : List ℕ → Report
@@ -106,6 +107,10 @@ module _ (p q : List ℕ) (steps levels : ℕ) (d d′ : List ℕ) (long : 7 ≤
   pub puffinest-evaluate-never-13 : reportIn d′ .number ≢ 13
   puffinest-evaluate-never-13 = evaluate-report-never-13 p q steps levels (reportIn d′) evaluate-read-back
 
+  pub puffinest-evaluate-as-read-exactly : (n : ℕ) (a : About) (place : ℕ) → n ≢ 12
+      → (reportIn d′ ≡ refusalReport n (aboutNumber a) place) ↔ RefusedByReading p q n a place
+  puffinest-evaluate-as-read-exactly = evaluate-report-as-read-exactly p q steps levels (reportIn d′) evaluate-read-back
+
 -- THE REWRITER'S CALL
 module _ (p q : List ℕ) (steps room : ℕ) (own first second d own′ first′ second′ d′ : List ℕ)
          (o : Opens (rewrite p q steps room own first second) own first second d own′ first′ second′ d′) where
@@ -147,6 +152,10 @@ module _ (p q : List ℕ) (steps room : ℕ) (own first second d own′ first′
       → ((reportIn d′ .number ≡ 13) ↔ ((x : Accepted p q) × RewriteInRange steps room × (LongEnough (x .book) room own first second → ⊥)))
       × ((reportIn d′ ≡ refusalReport 13 1 0) ↔ ((x : Accepted p q) × RewriteInRange steps room × (LongEnough (x .book) room own first second → ⊥)))
   puffinest-rewrite-13-exactly long = rewrite-report-13-exactly p q steps room own first second (reportIn d′) own′ first′ second′ (rewrite-leaves long)
+
+  pub puffinest-rewrite-as-read-exactly : 7 ≤ length d → (n : ℕ) (a : About) (place : ℕ) → n ≢ 12 → n ≢ 13
+      → (reportIn d′ ≡ refusalReport n (aboutNumber a) place) ↔ RefusedByReading p q n a place
+  puffinest-rewrite-as-read-exactly long = rewrite-report-as-read-exactly p q steps room own first second (reportIn d′) own′ first′ second′ (rewrite-leaves long)
 
 -- LARGER ALLOWANCES, and DEMAND 3: the first seven words are equal
 same-words : (v w : Reply) (c c′ d d′ : List ℕ) → Told v c c′ → Told w d d′ → reportIn d′ ≡ reportIn c′ → take 7 d′ ≡ take 7 c′
