@@ -86,7 +86,7 @@ pub rewrite-reports : (p q : List ℕ) (steps room : ℕ) (own first second : Li
 rewrite-reports p q steps room own first second r e = is-either p q (rewrite p q steps room own first second .reply) (rewrite-refuses p q steps room own first second) r e
 
 module _ (p q : List ℕ) (steps room : ℕ) (own first second : List ℕ) (r : Report) (own′ first′ second′ : List ℕ)
-         (l : Leaves (rewrite p q steps room own first second) r own′ first′ second′) where
+    (l : Leaves (rewrite p q steps room own first second) r own′ first′ second′) where
   abbrev reply : Reply
   reply = rewrite p q steps room own first second .reply
 

@@ -113,7 +113,7 @@ module _ (p q : List ℕ) (steps levels : ℕ) (d d′ : List ℕ) (long : 7 ≤
 
 -- THE REWRITER'S CALL
 module _ (p q : List ℕ) (steps room : ℕ) (own first second d own′ first′ second′ d′ : List ℕ)
-         (o : Opens (rewrite p q steps room own first second) own first second d own′ first′ second′ d′) where
+    (o : Opens (rewrite p q steps room own first second) own first second d own′ first′ second′ d′) where
   rewrite-leaves : 7 ≤ length d → Leaves (rewrite p q steps room own first second) (reportIn d′) own′ first′ second′
   rewrite-leaves long = door-leaves (rewrite p q steps room own first second) own first second d own′ first′ second′ d′ o long .1
 
