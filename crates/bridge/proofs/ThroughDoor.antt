@@ -8,7 +8,7 @@ use mathlib.Core.List.{List, [], _∷_}
 use native.Mathlib.Omega.{arith}
 use lib.Dec.{leb}
 use lib.ListN.{length, getD, take, drop}
-use borrow.Author.Tests.{leb-true, leb-false, le-leb, lt-leb}
+use borrow.Author.Tests.{leb-true, leb-false, le-leb}
 use Rattle.theory.specs.Syntax.{pick}
 use Rattle.theory.specs.Buffers.{over}
 use Rattle.theory.specs.Bytes.{good, Book, readProgram}
@@ -16,7 +16,8 @@ use Rattle.theory.specs.Answers.{About, Reply, evaluate, Rewritten, rewrite}
 use Rattle.theory.specs.Demands.{Accepted, RefusedByReading, EvaluateInRange, RewriteInRange, LongEnough}
 use Rattle.bridge.specs.declared.report.Report.{Report}
 use Rattle.bridge.specs.Report.{aboutNumber, refusalReport, reportOf, reportWords}
-use Rattle.bridge.specs.Calls.{told, opened, Leaves, Opens}
+use Rattle.bridge.specs.Calls.{told, Leaves, Opens}
+use Rattle.bridge.proofs.Telling.{told-short, opened-long, opened-short}
 use Rattle.bridge.proofs.Reports.{IsAnswer, Refuses, Answers}
 use Rattle.bridge.proofs.Calls.{evaluate-report-refuses, evaluate-report-answers, evaluate-report-answers-exactly, evaluate-report-12-exactly, evaluate-report-never-13, evaluate-report-as-read-exactly, rewrite-report-refuses, rewrite-report-answers, rewrite-report-answers-exactly, rewrite-report-12-exactly, rewrite-report-13-exactly, rewrite-report-as-read-exactly, larger-allowances-evaluate-report, larger-allowances-rewrite-report, reports-agree}
 
@@ -51,24 +52,15 @@ seven-words-told w d d′ h e =
     record { words-are = ap (take 7) k ∙ s .0; read-back = ap reportIn k ∙ s .1; past-them = ap (drop 7) k ∙ s .2 }
 
 pub short-report-untouched : (w : Reply) (d d′ : List ℕ) → length d < 7 → d′ ≡ told w d → d′ ≡ d
-unfolding told
-short-report-untouched w d d′ h e = e ∙ ap (λ (b : Bool). pick b (over (reportWords (reportOf w)) d) d) (lt-leb 7 (length d) h)
+short-report-untouched w d d′ h e = e ∙ sym (told-short w d h)
 
 -- THE FOUR SLICES of the rewriter's call
-opened-short : (d before after x : List ℕ) → length d < 7 → x ≡ opened d before after → x ≡ before
-unfolding opened
-opened-short d before after x h e = e ∙ ap (λ (b : Bool). pick b after before) (lt-leb 7 (length d) h)
-
-opened-long : (d before after x : List ℕ) → 7 ≤ length d → x ≡ opened d before after → x ≡ after
-unfolding opened
-opened-long d before after x h e = e ∙ ap (λ (b : Bool). pick b after before) (le-leb 7 (length d) h)
-
 module _ (w : Rewritten) (own first second d own′ first′ second′ d′ : List ℕ) (o : Opens w own first second d own′ first′ second′ d′) where
   pub short-report-changes-nothing : length d < 7 → (own′ ≡ own) × (first′ ≡ first) × (second′ ≡ second) × (d′ ≡ d)
   short-report-changes-nothing h = (
-    opened-short d own (w .own) own′ h (o .own-list),
-    opened-short d first (w .first) first′ h (o .first-buffer),
-    opened-short d second (w .second) second′ h (o .second-buffer),
+    o .own-list ∙ sym (opened-short d own (w .own) h),
+    o .first-buffer ∙ sym (opened-short d first (w .first) h),
+    o .second-buffer ∙ sym (opened-short d second (w .second) h),
     short-report-untouched (w .reply) d d′ h (o .told-report),
   )
 
@@ -79,9 +71,9 @@ module _ (w : Rewritten) (own first second d own′ first′ second′ d′ : Li
         t,
         record {
           report = t .read-back;
-          own-list = opened-long d own (w .own) own′ h (o .own-list);
-          first-buffer = opened-long d first (w .first) first′ h (o .first-buffer);
-          second-buffer = opened-long d second (w .second) second′ h (o .second-buffer);
+          own-list = o .own-list ∙ sym (opened-long d own (w .own) h);
+          first-buffer = o .first-buffer ∙ sym (opened-long d first (w .first) h);
+          second-buffer = o .second-buffer ∙ sym (opened-long d second (w .second) h);
         },
       )
 
