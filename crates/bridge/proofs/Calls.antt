@@ -1,205 +1,198 @@
--- THE CALLS' OWN ANSWERS: a report loses nothing, and is a refusal or an answer; both engines report the same; larger allowances change nothing;
--- a refusal changes no lent word; and each call's statement leaves one result.
-use Prim.Native.Nat.{ℕ, zero, suc, _≤_}
+-- THE CALLS' OWN REPORTS: each call answers, and refuses, exactly when it should; a refusal changes no lent word; larger allowances change
+-- nothing; both engines report the same; and each call's statement leaves one result.
+use Prim.Native.Nat.{ℕ, _≤_}
 use mathlib.Core.Path.{_≡_, refl, sym, ap, _∙_, subst}
-use mathlib.Core.Logic.{_≢_, _⊎_, inl, inr}
-use mathlib.Core.Bool.{Bool, true, false, _&&_}
+use mathlib.Core.Logic.{_↔_, _≢_, _⊎_, inl, inr}
 use mathlib.Core.List.{List}
 use native.Mathlib.Omega.{arith}
-use lib.Dec.{eqb}
-use Rattle.theory.specs.Syntax.{Base, zeroB, trueB, falseB, Val, base, up, height, Term, pick, choose}
-use Rattle.theory.specs.Endings.{value, raised, stuck, tooDeep, Said, is, outOfSteps, tooBig, Answer, says, Final}
-use Rattle.theory.specs.Answers.{About, theProgram, theQuestion, Reply, refusal, answer, Verdict, refuses, accepts, onQuestion, onProgram, judged, stepsAllowed, levelsAllowed, roomAllowed, evaluated, evaluate, Rewritten, unchanged, slicesLongEnough, performed, rewrittenBy, rewrite}
-use Rattle.theory.specs.Turns.{rewriter}
-use Rattle.theory.specs.Bytes.{Result, refused, good, Book, readProgram, programOf, readQuestion}
-use Rattle.theory.proofs.Bounds.{program-refusal-small, question-refusal-small}
-use Rattle.theory.proofs.PublicCalls.{calls-agree, evaluate-stays, rewrite-stays}
+use Rattle.theory.specs.Endings.{is, tooDeep, tooBig, Answer}
+use Rattle.theory.specs.Answers.{About, theProgram, Reply, refusal, answer, evaluate, Rewritten, rewrite}
+use Rattle.theory.specs.Bytes.{good, Book, readProgram}
+use Rattle.theory.specs.Demands.{Accepted, RefusedByReading, EvaluateInRange, RewriteInRange, LongEnough}
+use Rattle.theory.proofs.AnsweredExactly.{reading-number, evaluate-answers-exactly, evaluate-refuses-12-exactly, evaluate-refuses-as-read-exactly, evaluate-refuses, rewrite-answers-exactly, rewrite-refuses-12-exactly, rewrite-refuses-13-exactly, rewrite-refuses-as-read-exactly, rewrite-refuses, refusal-changes-nothing, larger-allowances-evaluate, larger-allowances-rewrite, both-answer-the-same}
 use Rattle.bridge.specs.declared.report.Report.{Report}
-use Rattle.bridge.specs.Report.{baseNumber, refusalReport, endingReport, saidReport, answerReport, reportOf}
-use Rattle.bridge.specs.Calls.{told, Leaves, Opens}
+use Rattle.bridge.specs.Report.{aboutNumber, refusalReport, reportOf}
+use Rattle.bridge.specs.Calls.{Leaves}
+use Rattle.bridge.proofs.Reports.{same-reply, IsRefusal, IsAnswer, Refuses, Answers, answer-report, ending-final, ending-deep, ending-big, Why, is-either, refused-so, answered-so, reply-answers, reply-refuses}
 
--- A REPORT LOSES NOTHING: the reply can be read from it
-abbrev aboutOf : ℕ → About
-aboutOf n = pick (eqb n 1) theProgram theQuestion
+-- THE EVALUATOR'S REPORT
+module _ (p q : List ℕ) (steps levels : ℕ) (r : Report) (e : r ≡ reportOf (evaluate p q steps levels)) where
+  evaluate-why : (n : ℕ) (a : About) (place : ℕ) → evaluate p q steps levels ≡ refusal n a place → Why p q n a place
+  evaluate-why n a place k = by (evaluate-refuses p q steps levels n a place k)
+    where
+      by : RefusedByReading p q n a place ⊎ ((n ≡ 12) × (a ≡ theProgram) × (place ≡ 0)) → Why p q n a place
+      by (inl h) = inl h
+      by (inr h) = inr (inl (h .0), h .1, h .2)
 
-abbrev baseOf : ℕ → Base
-baseOf n = pick (eqb n 1) zeroB (pick (eqb n 2) trueB falseB)
+  pub evaluate-reports : IsRefusal r ⊎ IsAnswer r
+  evaluate-reports = is-either p q (evaluate p q steps levels) evaluate-why r e
 
-abbrev valueOf : ℕ → Base → Val
-valueOf zero b = base b
-valueOf (suc k) b = up (valueOf k b)
+  pub evaluate-report-refuses : (r .number ≢ 0) ⊎ (r .ending ≡ 0) → Refuses p q r
+  evaluate-report-refuses = refused-so p q (evaluate p q steps levels) evaluate-why r e
 
-abbrev saidOf : ℕ → ℕ → ℕ → Said
-saidOf e k b =
-    pick (eqb e 1) (is (value (valueOf k (baseOf b)))) (pick (eqb e 2) (is (raised k)) (pick (eqb e 3) (is (stuck k)) (pick (eqb e 4) outOfSteps (pick (eqb e 5) (is tooDeep) tooBig))))
+  pub evaluate-report-answers : (r .number ≡ 0) ⊎ (1 ≤ r .ending) → Answers r
+  evaluate-report-answers = answered-so p q (evaluate p q steps levels) evaluate-why r e
 
-abbrev replyOf : Report → Reply
-replyOf r = pick (eqb (r .ending) 0) (refusal (r .number) (aboutOf (r .about)) (r .place)) (answer (says (saidOf (r .ending) (r .amount) (r .base)) (r .steps)))
+  evaluate-replies : (r .number ≡ 0) ⊎ (1 ≤ r .ending) → (a : Answer) × (evaluate p q steps levels ≡ answer a)
+  evaluate-replies = reply-answers p q (evaluate p q steps levels) evaluate-why r e
 
-value-read : (v : Val) → valueOf (height v) (baseOf (baseNumber v)) ≡ v
-value-read (base zeroB) = refl
-value-read (base trueB) = refl
-value-read (base falseB) = refl
-value-read (up v) = ap up (value-read v)
+  -- number 0, and an ending, exactly when program and question are accepted and the allowances are in range
+  pub evaluate-report-answers-exactly : ((r .number ≡ 0) ↔ (Accepted p q × EvaluateInRange steps levels)) × ((1 ≤ r .ending) ↔ (Accepted p q × EvaluateInRange steps levels))
+  evaluate-report-answers-exactly =
+      ((λ k. only (inl k), λ h. back h .0), (λ k. only (inr k), λ h. back h .1))
+    where
+      only : (r .number ≡ 0) ⊎ (1 ≤ r .ending) → Accepted p q × EvaluateInRange steps levels
+      only k = evaluate-answers-exactly p q steps levels .0 (evaluate-replies k)
 
-reply-read : (w : Reply) → replyOf (reportOf w) ≡ w
-unfolding reportOf refusalReport answerReport endingReport
-reply-read (refusal n theProgram p) = refl
-reply-read (refusal n theQuestion p) = refl
-reply-read (answer a) = by-said (a .said) (a .steps)
-  where
-    by-said : (m : Said) (c : ℕ) → replyOf (saidReport m c) ≡ answer (says m c)
-    by-said (is (value v)) c = ap (λ (x : Val). answer (says (is (value x)) c)) (value-read v)
-    by-said (is (raised e)) c = refl
-    by-said (is (stuck s)) c = refl
-    by-said (is tooDeep) c = refl
-    by-said outOfSteps c = refl
-    by-said tooBig c = refl
+      back : Accepted p q × EvaluateInRange steps levels → IsAnswer r
+      back h =
+          let a = evaluate-answers-exactly p q steps levels .1 h in
+          subst IsAnswer (sym (e ∙ ap reportOf (a .1))) (answer-report (a .0) .is-answer)
 
-pub same-reply : (v w : Reply) → reportOf v ≡ reportOf w → v ≡ w
-same-reply v w e = sym (reply-read v) ∙ ap replyOf e ∙ reply-read w
+  -- 12, about the program and at place 0, exactly when they are accepted and an allowance is out of range; never 13
+  pub evaluate-report-12-exactly : ((r .number ≡ 12) ↔ (Accepted p q × (EvaluateInRange steps levels → ⊥)))
+      × ((r ≡ refusalReport 12 1 0) ↔ (Accepted p q × (EvaluateInRange steps levels → ⊥)))
+  unfolding reportOf refusalReport
+  evaluate-report-12-exactly =
+      ((only, λ h. ap (λ (x : Report). x .number) (back h)), (λ k. only (ap (λ (x : Report). x .number) k), back))
+    where
+      only : r .number ≡ 12 → Accepted p q × (EvaluateInRange steps levels → ⊥)
+      only k =
+          let w = reply-refuses p q (evaluate p q steps levels) evaluate-why r e 12 (omega arith) k in
+          let h = evaluate-refuses-12-exactly p q steps levels (w .0) (w .1) .0 (w .2) in
+          (h .2, h .3)
 
--- A REPORT IS A REFUSAL OR AN ANSWER: its number is from 1 to 13 and its ending 0, or its number 0 and its ending from 1 to 6.
-abbrev pub IsRefusal : Report → Type 0
-IsRefusal r = (1 ≤ r .number) × (r .number ≤ 13) × (r .ending ≡ 0)
+      back : Accepted p q × (EvaluateInRange steps levels → ⊥) → r ≡ reportOf (refusal 12 theProgram 0)
+      back h = e ∙ ap reportOf (evaluate-refuses-12-exactly p q steps levels theProgram 0 .1 (refl, refl, h .0, h .1))
 
-abbrev pub IsAnswer : Report → Type 0
-IsAnswer r = (r .number ≡ 0) × (1 ≤ r .ending) × (r .ending ≤ 6)
+  pub evaluate-report-never-13 : r .number ≢ 13
+  evaluate-report-never-13 k =
+      let w = reply-refuses p q (evaluate p q steps levels) evaluate-why r e 13 (omega arith) k in
+      by 13 (w .0) (w .1) refl (evaluate-refuses p q steps levels 13 (w .0) (w .1) (w .2))
+    where
+      by : (n : ℕ) (a : About) (place : ℕ) → n ≡ 13 → RefusedByReading p q n a place ⊎ ((n ≡ 12) × (a ≡ theProgram) × (place ≡ 0)) → ⊥
+      by n a place i (inl h) = let high = reading-number p q n a place h .1 in omega (arith, i, high)
+      by n a place i (inr h) = let j = h .0 in omega (arith, i, j)
 
-abbrev Numbered : Reply → Type 0
-Numbered (refusal n a p) = (1 ≤ n) × (n ≤ 13)
-Numbered (answer a) = Unit {0}
+  -- any other refusal exactly where it is the reading's
+  pub evaluate-report-as-read-exactly : (n : ℕ) (a : About) (place : ℕ) → n ≢ 12 → (r ≡ refusalReport n (aboutNumber a) place) ↔ RefusedByReading p q n a place
+  unfolding reportOf
+  evaluate-report-as-read-exactly n a place d =
+      let h = evaluate-refuses-as-read-exactly p q steps levels n a place d in
+      (λ k. h .0 (same-reply (evaluate p q steps levels) (refusal n a place) (sym e ∙ k)), λ k. e ∙ ap reportOf (h .1 k))
 
-abbrev Judged : Verdict → Type 0
-Judged (refuses n a p) = (1 ≤ n) × (n ≤ 13)
-Judged (accepts s t) = Unit {0}
-
-judged-numbered : (p q : List ℕ) → Judged (judged p q)
-unfolding judged
-judged-numbered p q = by-program (readProgram p) refl
-  where
-    by-question : (s : Book) (r : Result Term) → readQuestion (s .decls) q ≡ r → Judged (onQuestion s r)
-    by-question s (refused r) e = let b = question-refusal-small (s .decls) q r e in (b .1, omega (arith, b .2))
-    by-question s (good t) e = tt
-
-    by-program : (r : Result Book) → readProgram p ≡ r → Judged (onProgram r q)
-    by-program (refused r) e = let b = program-refusal-small p r e in (b .1, omega (arith, b .2))
-    by-program (good s) e = by-question s (readQuestion (s .decls) q) refl
-
-choose-numbered : (b : Bool) (x y : Unit {0} → Reply) → Numbered (x tt) → Numbered (y tt) → Numbered (choose b x y)
-choose-numbered true x y h k = h
-choose-numbered false x y h k = k
-
-evaluate-numbered : (p q : List ℕ) (steps levels : ℕ) → Numbered (evaluate p q steps levels)
-unfolding evaluate
-evaluate-numbered p q steps levels = by-verdict (judged p q) (judged-numbered p q)
-  where
-    by-verdict : (v : Verdict) → Judged v → Numbered (evaluated steps levels v)
-    by-verdict (refuses n a place) h = h
-    by-verdict (accepts s t) h = choose-numbered (stepsAllowed steps && levelsAllowed levels) _ _ tt (omega arith, omega arith)
-
-rewrite-numbered : (p q : List ℕ) (steps room : ℕ) (own first second : List ℕ) → Numbered (rewrite p q steps room own first second .reply)
-unfolding rewrite
-rewrite-numbered p q steps room own first second = by-verdict (judged p q) (judged-numbered p q)
-  where
-    by-slices : (s : Book) (t : Term) (b : Bool)
-        → Numbered (choose b (λ u. performed (programOf s) t steps room own first second) (λ u. unchanged (refusal 13 theProgram 0) own first second) .reply)
-    by-slices s t true = tt
-    by-slices s t false = (omega arith, omega arith)
-
-    by-allowance : (s : Book) (t : Term) (b : Bool)
-        → Numbered (choose b (λ u. choose (slicesLongEnough (programOf s) room own first second) (λ u. performed (programOf s) t steps room own first second) (λ u. unchanged (refusal 13 theProgram 0) own first second)) (λ u. unchanged (refusal 12 theProgram 0) own first second) .reply)
-    by-allowance s t true = by-slices s t (slicesLongEnough (programOf s) room own first second)
-    by-allowance s t false = (omega arith, omega arith)
-
-    by-verdict : (v : Verdict) → Judged v → Numbered (rewrittenBy steps room own first second v .reply)
-    by-verdict (refuses n a place) h = h
-    by-verdict (accepts s t) h = by-allowance s t (stepsAllowed steps && roomAllowed room)
-
-either : (w : Reply) → Numbered w → IsRefusal (reportOf w) ⊎ IsAnswer (reportOf w)
-unfolding reportOf refusalReport answerReport endingReport
-either (refusal n a p) h = inl (h .0, h .1, refl)
-either (answer a) h = inr (by-said (a .said) (a .steps))
-  where
-    by-said : (m : Said) (c : ℕ) → IsAnswer (saidReport m c)
-    by-said (is (value v)) c = (refl, omega arith, omega arith)
-    by-said (is (raised e)) c = (refl, omega arith, omega arith)
-    by-said (is (stuck s)) c = (refl, omega arith, omega arith)
-    by-said (is tooDeep) c = (refl, omega arith, omega arith)
-    by-said outOfSteps c = (refl, omega arith, omega arith)
-    by-said tooBig c = (refl, omega arith, omega arith)
-
-pub evaluate-reports : (p q : List ℕ) (steps levels : ℕ) (r : Report) → r ≡ reportOf (evaluate p q steps levels) → IsRefusal r ⊎ IsAnswer r
-evaluate-reports p q steps levels r e =
-    subst (λ (x : Report). IsRefusal x ⊎ IsAnswer x) (sym e) (either (evaluate p q steps levels) (evaluate-numbered p q steps levels))
-
+-- THE REWRITER'S REPORT, and the three slices afterwards
 pub rewrite-reports : (p q : List ℕ) (steps room : ℕ) (own first second : List ℕ) (r : Report) → r ≡ reportOf (rewrite p q steps room own first second .reply) → IsRefusal r ⊎ IsAnswer r
-rewrite-reports p q steps room own first second r e =
-    subst (λ (x : Report). IsRefusal x ⊎ IsAnswer x) (sym e) (either (rewrite p q steps room own first second .reply) (rewrite-numbered p q steps room own first second))
+rewrite-reports p q steps room own first second r e = is-either p q (rewrite p q steps room own first second .reply) (rewrite-refuses p q steps room own first second) r e
 
--- AN ANSWER is a report whose ending is not 0
-record Answered (w : Reply) (r : Report) : Type 0 where
-  said-so : Answer
-  reply-is : w ≡ answer said-so
-  report-is : r ≡ saidReport (said-so .said) (said-so .steps)
+module _ (p q : List ℕ) (steps room : ℕ) (own first second : List ℕ) (r : Report) (own′ first′ second′ : List ℕ)
+    (l : Leaves (rewrite p q steps room own first second) r own′ first′ second′) where
+  abbrev reply : Reply
+  reply = rewrite p q steps room own first second .reply
 
-answered : (w : Reply) (r : Report) → r ≡ reportOf w → 1 ≤ r .ending → Answered w r
-unfolding reportOf refusalReport answerReport
-answered (refusal n a p) r e h = absurd (omega (arith, h, ap (λ (x : Report). x .ending) e))
-answered (answer a) r e h = record { said-so = a; reply-is = refl; report-is = e }
+  -- "and no lent word changes"
+  pub rewrite-report-refuses : (r .number ≢ 0) ⊎ (r .ending ≡ 0) → Refuses p q r × (own′ ≡ own) × (first′ ≡ first) × (second′ ≡ second)
+  rewrite-report-refuses k =
+      let f = refused-so p q reply (rewrite-refuses p q steps room own first second) r (l .report) k in
+      let low = f .is-refusal .0 in
+      let w = reply-refuses p q reply (rewrite-refuses p q steps room own first second) r (l .report) (r .number) low refl in
+      let h = refusal-changes-nothing p q steps room own first second (r .number) (w .0) (w .1) (w .2) in
+      (f, l .own-list ∙ ap (λ (x : Rewritten). x .own) h, l .first-buffer ∙ ap (λ (x : Rewritten). x .first) h, l .second-buffer ∙ ap (λ (x : Rewritten). x .second) h)
 
-ending-deep : (a : Answer) (r : Report) → r ≡ saidReport (a .said) (a .steps) → a .said ≡ is tooDeep → r .ending ≡ 5
-unfolding endingReport
-ending-deep a r e h = ap (λ (x : Report). x .ending) (e ∙ ap (λ (m : Said). saidReport m (a .steps)) h)
+  pub rewrite-report-answers : (r .number ≡ 0) ⊎ (1 ≤ r .ending) → Answers r
+  rewrite-report-answers = answered-so p q reply (rewrite-refuses p q steps room own first second) r (l .report)
 
-ending-big : (a : Answer) (r : Report) → r ≡ saidReport (a .said) (a .steps) → a .said ≡ tooBig → r .ending ≡ 6
-unfolding endingReport
-ending-big a r e h = ap (λ (x : Report). x .ending) (e ∙ ap (λ (m : Said). saidReport m (a .steps)) h)
+  rewrite-replies : (r .number ≡ 0) ⊎ (1 ≤ r .ending) → (a : Answer) × (reply ≡ answer a)
+  rewrite-replies = reply-answers p q reply (rewrite-refuses p q steps room own first second) r (l .report)
 
-ending-final : (a : Answer) (r : Report) → r ≡ saidReport (a .said) (a .steps) → r .ending ≤ 3 → Final (a .said)
-unfolding endingReport
-ending-final a r e h = by-said (a .said) (a .steps) (ap (λ (x : Report). x .ending) e)
+  -- number 0, and an ending, exactly when they are accepted, the allowances are in range and the slices long enough
+  pub rewrite-report-answers-exactly : ((r .number ≡ 0) ↔ ((x : Accepted p q) × RewriteInRange steps room × LongEnough (x .book) room own first second))
+      × ((1 ≤ r .ending) ↔ ((x : Accepted p q) × RewriteInRange steps room × LongEnough (x .book) room own first second))
+  rewrite-report-answers-exactly =
+      ((λ k. only (inl k), λ h. back h .0), (λ k. only (inr k), λ h. back h .1))
+    where
+      only : (r .number ≡ 0) ⊎ (1 ≤ r .ending) → (x : Accepted p q) × RewriteInRange steps room × LongEnough (x .book) room own first second
+      only k = rewrite-answers-exactly p q steps room own first second .0 (rewrite-replies k)
+
+      back : (x : Accepted p q) × RewriteInRange steps room × LongEnough (x .book) room own first second → IsAnswer r
+      back h =
+          let a = rewrite-answers-exactly p q steps room own first second .1 h in
+          subst IsAnswer (sym (l .report ∙ ap reportOf (a .1))) (answer-report (a .0) .is-answer)
+
+  -- 12 exactly when an allowance is out of range; 13 exactly when they are in range and a slice is too short; each about the program, at place 0
+  pub rewrite-report-12-exactly : ((r .number ≡ 12) ↔ (Accepted p q × (RewriteInRange steps room → ⊥)))
+      × ((r ≡ refusalReport 12 1 0) ↔ (Accepted p q × (RewriteInRange steps room → ⊥)))
+  unfolding reportOf refusalReport
+  rewrite-report-12-exactly =
+      ((only, λ h. ap (λ (x : Report). x .number) (back h)), (λ k. only (ap (λ (x : Report). x .number) k), back))
+    where
+      only : r .number ≡ 12 → Accepted p q × (RewriteInRange steps room → ⊥)
+      only k =
+          let w = reply-refuses p q reply (rewrite-refuses p q steps room own first second) r (l .report) 12 (omega arith) k in
+          let h = rewrite-refuses-12-exactly p q steps room own first second (w .0) (w .1) .0 (w .2) in
+          (h .2, h .3)
+
+      back : Accepted p q × (RewriteInRange steps room → ⊥) → r ≡ reportOf (refusal 12 theProgram 0)
+      back h = l .report ∙ ap reportOf (rewrite-refuses-12-exactly p q steps room own first second theProgram 0 .1 (refl, refl, h .0, h .1))
+
+  pub rewrite-report-13-exactly : ((r .number ≡ 13) ↔ ((x : Accepted p q) × RewriteInRange steps room × (LongEnough (x .book) room own first second → ⊥)))
+      × ((r ≡ refusalReport 13 1 0) ↔ ((x : Accepted p q) × RewriteInRange steps room × (LongEnough (x .book) room own first second → ⊥)))
+  unfolding reportOf refusalReport
+  rewrite-report-13-exactly =
+      ((only, λ h. ap (λ (x : Report). x .number) (back h)), (λ k. only (ap (λ (x : Report). x .number) k), back))
+    where
+      only : r .number ≡ 13 → (x : Accepted p q) × RewriteInRange steps room × (LongEnough (x .book) room own first second → ⊥)
+      only k =
+          let w = reply-refuses p q reply (rewrite-refuses p q steps room own first second) r (l .report) 13 (omega arith) k in
+          rewrite-refuses-13-exactly p q steps room own first second (w .0) (w .1) .0 (w .2) .2
+
+      back : (x : Accepted p q) × RewriteInRange steps room × (LongEnough (x .book) room own first second → ⊥) → r ≡ reportOf (refusal 13 theProgram 0)
+      back h = l .report ∙ ap reportOf (rewrite-refuses-13-exactly p q steps room own first second theProgram 0 .1 (refl, refl, h))
+
+  pub rewrite-report-as-read-exactly : (n : ℕ) (a : About) (place : ℕ) → n ≢ 12 → n ≢ 13 → (r ≡ refusalReport n (aboutNumber a) place) ↔ RefusedByReading p q n a place
+  unfolding reportOf
+  rewrite-report-as-read-exactly n a place d f =
+      let h = rewrite-refuses-as-read-exactly p q steps room own first second n a place d f in
+      (λ k. h .0 (same-reply reply (refusal n a place) (sym (l .report) ∙ k)), λ k. l .report ∙ ap reportOf (h .1 k))
+
+-- LARGER ALLOWANCES: a first report of value, exception or stuck; no allowance of the second call is smaller, each is in range, its slices are
+-- long enough; then its report is equal to the first.
+pub larger-allowances-evaluate-report : (p q : List ℕ) (steps steps′ levels levels′ : ℕ) (x y : Report)
+    → x ≡ reportOf (evaluate p q steps levels) → y ≡ reportOf (evaluate p q steps′ levels′) → 1 ≤ x .ending → x .ending ≤ 3
+    → steps ≤ steps′ → levels ≤ levels′ → EvaluateInRange steps′ levels′ → y ≡ x
+larger-allowances-evaluate-report p q steps steps′ levels levels′ x y ex ey low final hs hl range =
+    let a = evaluate-replies p q steps levels x ex (inr low) in
+    let f = ending-final (a .0) (subst (λ (z : Report). z .ending ≤ 3) (ex ∙ ap reportOf (a .1)) final) in
+    ey ∙ ap reportOf (larger-allowances-evaluate p q steps steps′ levels levels′ (a .0) (a .1) f hs (range .0) hl (range .2) ∙ sym (a .1)) ∙ sym ex
+
+pub larger-allowances-rewrite-report : (p q : List ℕ) (steps steps′ room room′ : ℕ) (own first second own′ first′ second′ : List ℕ) (x y : Report)
+    (own₁ first₁ second₁ own₂ first₂ second₂ : List ℕ) (s : Book)
+    → Leaves (rewrite p q steps room own first second) x own₁ first₁ second₁ → Leaves (rewrite p q steps′ room′ own′ first′ second′) y own₂ first₂ second₂
+    → 1 ≤ x .ending → x .ending ≤ 3 → steps ≤ steps′ → room ≤ room′ → RewriteInRange steps′ room′ → readProgram p ≡ good s → LongEnough s room′ own′ first′ second′ → y ≡ x
+larger-allowances-rewrite-report p q steps steps′ room room′ own first second own′ first′ second′ x y own₁ first₁ second₁ own₂ first₂ second₂ s lx ly low final hs hr range ep long =
+    let a = rewrite-replies p q steps room own first second x own₁ first₁ second₁ lx (inr low) in
+    let f = ending-final (a .0) (subst (λ (z : Report). z .ending ≤ 3) (lx .report ∙ ap reportOf (a .1)) final) in
+    ly .report
+    ∙ ap reportOf (larger-allowances-rewrite p q steps steps′ room room′ own first second own′ first′ second′ (a .0) s (a .1) f hs (range .0) hr (range .2) ep long ∙ sym (a .1))
+    ∙ sym (lx .report)
+
+-- DEMAND 3: accepted, in range and long enough; then both calls answer, and unless the evaluator is too deep or the rewriter too big the two
+-- reports are equal.
+pub reports-agree : (p q : List ℕ) (steps levels room : ℕ) (own first second : List ℕ) (x y : Report) (own′ first′ second′ : List ℕ)
+    → x ≡ reportOf (evaluate p q steps levels) → Leaves (rewrite p q steps room own first second) y own′ first′ second′
+    → (z : Accepted p q) → EvaluateInRange steps levels → RewriteInRange steps room → LongEnough (z .book) room own first second
+    → IsAnswer x × IsAnswer y × (x .ending ≢ 5 → y .ending ≢ 6 → y ≡ x)
+reports-agree p q steps levels room own first second x y own′ first′ second′ ex ly z he hr long =
+    let h = both-answer-the-same p q steps levels room own first second z he hr long in
+    by (h .0) (h .1) (ex ∙ ap reportOf (h .2)) (ly .report ∙ ap reportOf (h .3)) (h .4)
   where
-    by-said : (m : Said) (c : ℕ) → r .ending ≡ saidReport m c .ending → Final m
-    by-said (is (value v)) c k = tt
-    by-said (is (raised x)) c k = tt
-    by-said (is (stuck s)) c k = tt
-    by-said (is tooDeep) c k = absurd (omega (arith, h, k))
-    by-said outOfSteps c k = absurd (omega (arith, h, k))
-    by-said tooBig c k = absurd (omega (arith, h, k))
-
-same-report : (a b : Answer) (x y : Report) → x ≡ saidReport (a .said) (a .steps) → y ≡ saidReport (b .said) (b .steps) → b ≡ a → y ≡ x
-same-report a b x y ex ey e = ey ∙ ap (λ (c : Answer). saidReport (c .said) (c .steps)) e ∙ sym ex
-
--- DEMAND 3: with the same step allowance the two calls' reports are equal, where both are answers, and neither is too deep or too big.
-pub reports-agree : (p q : List ℕ) (steps levels room : ℕ) (own first second : List ℕ) (x y : Report)
-    → x ≡ reportOf (evaluate p q steps levels) → y ≡ reportOf (rewrite p q steps room own first second .reply)
-    → 1 ≤ x .ending → 1 ≤ y .ending → x .ending ≢ 5 → y .ending ≢ 6 → y ≡ x
-reports-agree p q steps levels room own first second x y ex ey hx hy deep big =
-    let a = answered (evaluate p q steps levels) x ex hx in
-    let b = answered (rewrite p q steps room own first second .reply) y ey hy in
-    same-report (a .said-so) (b .said-so) x y (a .report-is) (b .report-is)
-    (calls-agree p q steps levels room own first second (a .said-so) (b .said-so) (a .reply-is) (b .reply-is)
-    (λ h. deep (ending-deep (a .said-so) x (a .report-is) h)) (λ h. big (ending-big (b .said-so) y (b .report-is) h)))
-
--- LARGER ALLOWANCES: a report of a value, an exception or a stuck ending stays, wherever there is an answer.
-pub evaluate-report-stays : (p q : List ℕ) (steps steps′ levels levels′ : ℕ) (x y : Report) → steps ≤ steps′ → levels ≤ levels′
-    → x ≡ reportOf (evaluate p q steps levels) → y ≡ reportOf (evaluate p q steps′ levels′) → 1 ≤ x .ending → x .ending ≤ 3 → 1 ≤ y .ending → y ≡ x
-evaluate-report-stays p q steps steps′ levels levels′ x y hs hl ex ey hx final hy =
-    let a = answered (evaluate p q steps levels) x ex hx in
-    let b = answered (evaluate p q steps′ levels′) y ey hy in
-    same-report (a .said-so) (b .said-so) x y (a .report-is) (b .report-is)
-    (evaluate-stays p q steps steps′ levels levels′ (a .said-so) (b .said-so) hs hl (a .reply-is) (ending-final (a .said-so) x (a .report-is) final) (b .reply-is))
-
-pub rewrite-report-stays : (p q : List ℕ) (steps steps′ room room′ : ℕ) (own first second own′ first′ second′ : List ℕ) (x y : Report) → steps ≤ steps′ → room ≤ room′
-    → x ≡ reportOf (rewrite p q steps room own first second .reply) → y ≡ reportOf (rewrite p q steps′ room′ own′ first′ second′ .reply)
-    → 1 ≤ x .ending → x .ending ≤ 3 → 1 ≤ y .ending → y ≡ x
-rewrite-report-stays p q steps steps′ room room′ own first second own′ first′ second′ x y hs hr ex ey hx final hy =
-    let a = answered (rewrite p q steps room own first second .reply) x ex hx in
-    let b = answered (rewrite p q steps′ room′ own′ first′ second′ .reply) y ey hy in
-    same-report (a .said-so) (b .said-so) x y (a .report-is) (b .report-is)
-    (rewrite-stays p q steps steps′ room room′ own first second own′ first′ second′ (a .said-so) (b .said-so) hs hr (a .reply-is)
-    (ending-final (a .said-so) x (a .report-is) final) (b .reply-is))
+    by : (a b : Answer) → x ≡ reportOf (answer a) → y ≡ reportOf (answer b) → (a .said ≢ is tooDeep → b .said ≢ tooBig → b ≡ a)
+        → IsAnswer x × IsAnswer y × (x .ending ≢ 5 → y .ending ≢ 6 → y ≡ x)
+    by a b ea eb same = (
+      subst IsAnswer (sym ea) (answer-report a .is-answer),
+      subst IsAnswer (sym eb) (answer-report b .is-answer),
+      λ deep big. eb ∙ ap (λ (c : Answer). reportOf (answer c)) (same (λ k. deep (ap (λ (r : Report). r .ending) ea ∙ ending-deep a k)) (λ k. big (ap (λ (r : Report). r .ending) eb ∙ ending-big b k))) ∙ sym ea,
+    )
 
 -- ONE RESULT: two that satisfy a call's statement are equal.
 pub evaluate-once : (p q : List ℕ) (steps levels : ℕ) (x y : Report) → x ≡ reportOf (evaluate p q steps levels) → y ≡ reportOf (evaluate p q steps levels) → x ≡ y
@@ -209,51 +202,3 @@ pub rewrite-once : (w : Rewritten) (x y : Report) (own first second own′ first
     → (x ≡ y) × (own ≡ own′) × (first ≡ first′) × (second ≡ second′)
 rewrite-once w x y own first second own′ first′ second′ h k =
     (h .report ∙ sym (k .report), h .own-list ∙ sym (k .own-list), h .first-buffer ∙ sym (k .first-buffer), h .second-buffer ∙ sym (k .second-buffer))
-
-pub puffinest-evaluate-once : (w : Reply) (d x y : List ℕ) → x ≡ told w d → y ≡ told w d → x ≡ y
-puffinest-evaluate-once w d x y ex ey = ex ∙ sym ey
-
-pub puffinest-rewrite-once : (w : Rewritten) (o f s d o₁ f₁ s₁ d₁ o₂ f₂ s₂ d₂ : List ℕ) → Opens w o f s d o₁ f₁ s₁ d₁ → Opens w o f s d o₂ f₂ s₂ d₂
-    → (d₁ ≡ d₂) × (o₁ ≡ o₂) × (f₁ ≡ f₂) × (s₁ ≡ s₂)
-puffinest-rewrite-once w o f s d o₁ f₁ s₁ d₁ o₂ f₂ s₂ d₂ h k =
-    (h .told-report ∙ sym (k .told-report), h .own-list ∙ sym (k .own-list), h .first-buffer ∙ sym (k .first-buffer), h .second-buffer ∙ sym (k .second-buffer))
-
--- A REFUSAL CHANGES NO LENT WORD: where the rewriter's report has the ending 0, the three slices are as they were.
-answer-ends : (m : Said) (c : ℕ) → 1 ≤ saidReport m c .ending
-unfolding endingReport
-answer-ends (is (value v)) c = omega arith
-answer-ends (is (raised e)) c = omega arith
-answer-ends (is (stuck s)) c = omega arith
-answer-ends (is tooDeep) c = omega arith
-answer-ends outOfSteps c = omega arith
-answer-ends tooBig c = omega arith
-
-abbrev Keeps : Rewritten → List ℕ → List ℕ → List ℕ → Type 0
-Keeps w own first second = (w .own ≡ own) × (w .first ≡ first) × (w .second ≡ second)
-
-refusal-kept : (p q : List ℕ) (steps room : ℕ) (own first second : List ℕ) → reportOf (rewrite p q steps room own first second .reply) .ending ≡ 0
-    → Keeps (rewrite p q steps room own first second) own first second
-unfolding rewrite reportOf answerReport
-refusal-kept p q steps room own first second = by-verdict (judged p q)
-  where
-    by-slices : (s : Book) (t : Term) (b : Bool)
-        → let w = choose b (λ u. performed (programOf s) t steps room own first second) (λ u. unchanged (refusal 13 theProgram 0) own first second) in
-        reportOf (w .reply) .ending ≡ 0 → Keeps w own first second
-    by-slices s t true z = let a = rewriter (programOf s) room steps t in absurd (omega (arith, z, answer-ends (a .said) (a .steps)))
-    by-slices s t false z = (refl, refl, refl)
-
-    by-allowance : (s : Book) (t : Term) (b : Bool)
-        → let w = choose b (λ u. choose (slicesLongEnough (programOf s) room own first second) (λ u. performed (programOf s) t steps room own first second) (λ u. unchanged (refusal 13 theProgram 0) own first second)) (λ u. unchanged (refusal 12 theProgram 0) own first second) in
-        reportOf (w .reply) .ending ≡ 0 → Keeps w own first second
-    by-allowance s t true z = by-slices s t (slicesLongEnough (programOf s) room own first second) z
-    by-allowance s t false z = (refl, refl, refl)
-
-    by-verdict : (v : Verdict) → reportOf (rewrittenBy steps room own first second v .reply) .ending ≡ 0 → Keeps (rewrittenBy steps room own first second v) own first second
-    by-verdict (refuses n a place) z = (refl, refl, refl)
-    by-verdict (accepts s t) z = by-allowance s t (stepsAllowed steps && roomAllowed room) z
-
-pub refusal-keeps : (p q : List ℕ) (steps room : ℕ) (own first second own′ first′ second′ : List ℕ) (r : Report)
-    → Leaves (rewrite p q steps room own first second) r own′ first′ second′ → r .ending ≡ 0 → (own′ ≡ own) × (first′ ≡ first) × (second′ ≡ second)
-refusal-keeps p q steps room own first second own′ first′ second′ r l z =
-    let h = refusal-kept p q steps room own first second (sym (ap (λ (x : Report). x .ending) (l .report)) ∙ z) in
-    (l .own-list ∙ h .0, l .first-buffer ∙ h .1, l .second-buffer ∙ h .2)

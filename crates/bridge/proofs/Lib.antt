@@ -1,5 +1,5 @@
--- Laws by subject. Calls has those about the public calls' own answers; TranslatorWords, EvaluatorAnswers and RewriterAnswers cite the
--- crates below that write the words and run.
+-- Laws by subject. Reports has those about a report, Calls those about the public calls' own reports, ThroughDoor those about the hosts' calls;
+-- TranslatorWords, EvaluatorAnswers and RewriterAnswers cite the crates below that write the words and run.
 mod Judging
 mod Allowing
 mod Lending
@@ -8,4 +8,6 @@ mod Endings
 mod EvaluatorAnswers
 mod RewriterAnswers
 mod Telling
+pub mod Reports
 pub mod Calls
+pub mod ThroughDoor

@@ -36,11 +36,11 @@ pub told-short : (w : Reply) (d : List ℕ) → length d < 7 → d ≡ told w d
 unfolding told
 told-short w d h = sym (ap (λ (b : Bool). pick b (over (reportWords (reportOf w)) d) d) (lt-leb 7 (length d) h))
 
-opened-long : (d before after : List ℕ) → 7 ≤ length d → after ≡ opened d before after
+pub opened-long : (d before after : List ℕ) → 7 ≤ length d → after ≡ opened d before after
 unfolding opened
 opened-long d before after h = sym (ap (λ (b : Bool). pick b after before) (le-leb 7 (length d) h))
 
-opened-short : (d before after : List ℕ) → length d < 7 → before ≡ opened d before after
+pub opened-short : (d before after : List ℕ) → length d < 7 → before ≡ opened d before after
 unfolding opened
 opened-short d before after h = sym (ap (λ (b : Bool). pick b after before) (lt-leb 7 (length d) h))
 
