@@ -13,7 +13,8 @@ use Rattle.theory.proofs.AnsweredExactly.{reading-number, evaluate-answers-exac
 use Rattle.bridge.specs.declared.report.Report.{Report}
 use Rattle.bridge.specs.Report.{aboutNumber, refusalReport, reportOf}
 use Rattle.bridge.specs.Calls.{Leaves}
-use Rattle.bridge.proofs.Reports.{same-reply, IsRefusal, IsAnswer, Refuses, Answers, answer-report, ending-final, ending-deep, ending-big, Why, is-either, refused-so, answered-so, reply-answers, reply-refuses}
+use Rattle.bridge.specs.Demanded.{IsRefusal, IsAnswer, Refuses, Answers}
+use Rattle.bridge.proofs.Reports.{same-reply, answer-report, ending-final, ending-deep, ending-big, Why, is-either, refused-so, answered-so, reply-answers, reply-refuses}
 
 -- THE EVALUATOR'S REPORT
 module _ (p q : List ℕ) (steps levels : ℕ) (r : Report) (e : r ≡ reportOf (evaluate p q steps levels)) where

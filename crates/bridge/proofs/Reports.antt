@@ -11,9 +11,10 @@ use Rattle.theory.specs.Endings.{value, raised, stuck, tooDeep, Said, is, outOf
 use Rattle.theory.specs.Answers.{About, theProgram, theQuestion, Reply, refusal, answer}
 use Rattle.theory.specs.Demands.{RefusedByReading}
 use Rattle.theory.proofs.AnsweredExactly.{reading-number}
-use Rattle.theory.proofs.Refusals.{NotOfAQuestion, question-number, reading-place}
+use Rattle.theory.proofs.Refusals.{question-number, reading-place}
 use Rattle.bridge.specs.declared.report.Report.{Report}
 use Rattle.bridge.specs.Report.{aboutNumber, baseNumber, refusalReport, endingReport, saidReport, answerReport, reportOf}
+use Rattle.bridge.specs.Demanded.{IsRefusal, IsAnswer, Refuses, Answers}
 
 -- A REPORT LOSES NOTHING: the reply can be read from it
 abbrev aboutOf : ℕ → About
@@ -55,26 +56,6 @@ reply-read (answer a) = by-said (a .said) (a .steps)
 
 pub same-reply : (v w : Reply) → reportOf v ≡ reportOf w → v ≡ w
 same-reply v w e = sym (reply-read v) ∙ ap replyOf e ∙ reply-read w
-
--- A REPORT IS A REFUSAL OR AN ANSWER: its number is from 1 to 13 and its ending 0, or its number 0 and its ending from 1 to 6.
-abbrev pub IsRefusal : Report → Type 0
-IsRefusal r = (1 ≤ r .number) × (r .number ≤ 13) × (r .ending ≡ 0)
-
-abbrev pub IsAnswer : Report → Type 0
-IsAnswer r = (r .number ≡ 0) × (1 ≤ r .ending) × (r .ending ≤ 6)
-
--- "Each refusal gives its number, which string it is about (program or question; program for 12 and 13) and the byte place in that string, zero
--- for every other field"; "A question is never refused by 1, 9, 5, 6 or 10."
-pub record Refuses (p q : List ℕ) (r : Report) : Type 0 where
-  pub is-refusal : IsRefusal r
-  pub string-and-place : ((r .about ≡ 1) × (r .place ≤ length p)) ⊎ ((r .about ≡ 2) × (r .place ≤ length q))
-  pub other-fields : (r .amount ≡ 0) × (r .base ≡ 0) × (r .steps ≡ 0)
-  pub of-a-question : r .about ≡ 2 → NotOfAQuestion (r .number) × (r .number ≢ 12) × (r .number ≢ 13)
-
--- an answer is about no string and at no place
-pub record Answers (r : Report) : Type 0 where
-  pub is-answer : IsAnswer r
-  pub no-string : (r .about ≡ 0) × (r .place ≡ 0)
 
 pub answer-report : (a : Answer) → Answers (reportOf (answer a))
 unfolding reportOf answerReport endingReport

@@ -17,21 +17,11 @@ use Rattle.theory.specs.Demands.{Accepted, RefusedByReading, EvaluateInRange, R
 use Rattle.bridge.specs.declared.report.Report.{Report}
 use Rattle.bridge.specs.Report.{aboutNumber, refusalReport, reportOf, reportWords}
 use Rattle.bridge.specs.Calls.{told, Leaves, Opens}
+use Rattle.bridge.specs.Demanded.{IsAnswer, Refuses, Answers, reportIn, Told}
 use Rattle.bridge.proofs.Telling.{told-short, opened-long, opened-short}
-use Rattle.bridge.proofs.Reports.{IsAnswer, Refuses, Answers}
 use Rattle.bridge.proofs.Calls.{evaluate-report-refuses, evaluate-report-answers, evaluate-report-answers-exactly, evaluate-report-12-exactly, evaluate-report-never-13, evaluate-report-as-read-exactly, rewrite-report-refuses, rewrite-report-answers, rewrite-report-answers-exactly, rewrite-report-12-exactly, rewrite-report-13-exactly, rewrite-report-as-read-exactly, larger-allowances-evaluate-report, larger-allowances-rewrite-report, reports-agree}
 
--- the report in words 0 to 6 of a slice
-abbrev pub reportIn : List ℕ → Report
-reportIn d =
-    record { number = getD d 0 0; about = getD d 1 0; place = getD d 2 0; ending = getD d 3 0; amount = getD d 4 0; base = getD d 5 0; steps = getD d 6 0 }
-
 -- THE REPORT'S WORDS
-pub record Told (w : Reply) (d d′ : List ℕ) : Type 0 where
-  pub words-are : take 7 d′ ≡ reportWords (reportOf w)
-  pub read-back : reportIn d′ ≡ reportOf w
-  pub past-them : drop 7 d′ ≡ drop 7 d
-
 seven-words : (r : Report) (d : List ℕ) → 7 ≤ length d
     → (take 7 (over (reportWords r) d) ≡ reportWords r) × (reportIn (over (reportWords r) d) ≡ r) × (drop 7 (over (reportWords r) d) ≡ drop 7 d)
 unfolding reportWords

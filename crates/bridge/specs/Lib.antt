@@ -6,3 +6,4 @@ pub mod Written
 pub mod EvaluatorReport
 pub mod RewriterReport
 pub mod Calls
+pub mod Demanded
