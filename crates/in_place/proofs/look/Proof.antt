@@ -19,7 +19,7 @@ same-length c = search needs
 returns : tie.Need-returns
 returns c =
     let found = c .before .before .before .before in
-    (found .site-on .ensures .0, (found .site-on .ensures .1, c .change-at .ensures .0))
+    (found .site-on .ensures .0, (found .site-on .ensures .1, c .change-at .ensures))
 
 pub look-spec : {M : Type 1} → statement M
 look-spec = tie.close (tie.spec site-on-requires change-at-requires same-length returns)

@@ -19,7 +19,7 @@ drive-requires : tie.Need-drive-requires
 drive-requires c κs =
     let asked = c .before .before .before in
     let pre = asked .before .before .before .before .before .before .before .before .pre in
-    (omega (arith, pre .0), (refl, (asked .is-usual .ensures, pre .1)))
+    (omega (arith, pre .0), (refl, (asked .is-usual .ensures .0, pre .1)))
 
 tidy-requires : tie.Need-tidy-requires
 tidy-requires c κs =
