@@ -195,9 +195,9 @@ module _ (ks standing own si oi t path : List ℕ) (room p m n : ℕ) (f : Fitti
 
 -- ---- a change at a site
 -- no steps: no change
-pub no-change : (next : List ℕ → Option (List ℕ)) (room : ℕ) (s : Site) (t : List ℕ) → Changes next room s t (record { steps = 0; word = 0 }) × (0 ≤ 65536)
-no-change next room (At p f) t = (λ h. absurd (omega (arith, h)), omega arith)
-no-change next room Nothing t = (refl, omega arith)
+pub no-change : (next : List ℕ → Option (List ℕ)) (room : ℕ) (s : Site) (t : List ℕ) → Changes next room s t (record { steps = 0; word = 0 })
+no-change next room (At p f) t = λ h. absurd (omega (arith, h))
+no-change next room Nothing t = refl
 
 -- the site s of the term t is the place p, and r are the words of the rule that fits there
 module _ (ks standing own si oi t path : List ℕ) (room m n : ℕ) (s : Site) (sited : s ≡ siteAt ks (fittingOf ks standing own si oi) t 0) (numbered : Numbered ks t path s m) (p : ℕ) (f : Fitting)
@@ -218,12 +218,10 @@ module _ (ks standing own si oi t path : List ℕ) (room m n : ℕ) (s : Site) (
   changes : (k : Change) → (0 < k .steps → Leads next room (k .steps) t (set t p (k .word))) → Changes next room s t k
   changes k h = subst (λ (x : Site). Changes next room x t k) (sym is-at) h
 
-  pub renaming-changes : Renames r n → Changes next room s t (record { steps = 1; word = getD r (n + 3) 0 }) × (1 ≤ 65536)
-  renaming-changes e = (
-    changes (record { steps = 1; word = getD r (n + 3) 0 })
-        (λ h. said (λ (l : List ℕ). Renames l n → Leads next room 1 t (set t p (getD l (n + 3) 0))) (rename-leads ks standing own si oi t path room p m n f site noted fits-room) e),
-    omega arith,
-  )
+  pub renaming-changes : Renames r n → Changes next room s t (record { steps = 1; word = getD r (n + 3) 0 })
+  renaming-changes e =
+      changes (record { steps = 1; word = getD r (n + 3) 0 })
+      (λ h. said (λ (l : List ℕ). Renames l n → Leads next room 1 t (set t p (getD l (n + 3) 0))) (rename-leads ks standing own si oi t path room p m n f site noted fits-room) e)
 
   pub test-changes : Usual standing si oi → Tests ks r n → (o : Reach) → o ≡ past (arityOf ks) (drop (p + 1) t) (getD r (n + 5) 0 - 64) (p + 1) → (q steps : ℕ) → o ≡ End q
       → (0 < steps → Passes t q room steps) → Changes next room s t (record { steps = steps; word = getD r (n + 6) 0 })

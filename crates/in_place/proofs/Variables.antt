@@ -18,7 +18,7 @@ use Rattle.words.specs.declared.terms.Reach.the-variants.{End, Short}
 use Rattle.words.specs.Terms.{arityOf, past, skipAt}
 use Rattle.words.proofs.Skips.{past-none, past-reach, past-later, skip-reach, skip-then}
 use Rattle.words.specs.Same.{sameWords}
-use Rattle.words.proofs.Same.{same-true}
+use Rattle.words.proofs.Same.{same-true, same-refl}
 use Rattle.words.proofs.Parts.{tail-part}
 use Rattle.rules.specs.Matching.{takes, reached, fits, binds}
 use Rattle.rules.specs.declared.matching.Bound.{Bound}
@@ -42,6 +42,14 @@ first-vars ws at n h e =
     let there : n ≡ at + n - at = omega arith in
     let here : n - 0 ≡ n = omega arith in
     ap (λ (k : ℕ). take k (drop at ws)) there ∙ same-true _ _ e ∙ ap (λ (k : ℕ). take k (vars 64 8)) here ∙ take-vars n 8 64 h
+
+pub vars-first : (ws : List ℕ) (at n : ℕ) → n ≤ 8 → take n (drop at ws) ≡ vars 64 n → sameWords (take (at + n - at) (drop at ws)) (take (n - 0) (vars 64 8)) ≡ true
+vars-first ws at n h e =
+    let there : at + n - at ≡ n = omega arith in
+    let here : n ≡ n - 0 = omega arith in
+    let both : take (at + n - at) (drop at ws) ≡ take (n - 0) (vars 64 8) =
+    ap (λ (k : ℕ). take k (drop at ws)) there ∙ e ∙ sym (take-vars n 8 64 h) ∙ ap (λ (k : ℕ). take k (vars 64 8)) here in
+    ap (λ (l : List ℕ). sameWords l (take (n - 0) (vars 64 8))) both ∙ same-refl (take (n - 0) (vars 64 8))
 
 -- ---- parts
 parts-join : (a b c : ℕ) (l : List ℕ) → a ≤ b → b ≤ c → part a b l ++ part b c l ≡ part a c l

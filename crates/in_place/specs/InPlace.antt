@@ -14,6 +14,7 @@ use Rattle.place.specs.Path.{siteAt}
 use Rattle.place.specs.Noted.{Numbered}
 use Rattle.in_place.specs.declared.Change.{Change}
 use Rattle.in_place.specs.declared.Passed.{Passed}
+use Rattle.in_place.specs.declared.Seen.{Seen}
 
 -- the term t leads to u in m steps, and each term on the way fits the room
 abbrev pub Leads : (List ℕ → Option (List ℕ)) → ℕ → ℕ → List ℕ → List ℕ → Type 0
@@ -24,6 +25,10 @@ Leads next room (suc m) t u = (v : List ℕ) × ((next t ≡ some v) × ((length
 abbrev pub Changes : (List ℕ → Option (List ℕ)) → ℕ → Site → List ℕ → Change → Type 0
 Changes next room (At p f) t c = 0 < c .steps → Leads next room (c .steps) t (set t p (c .word))
 Changes next room Nothing t c = c .steps ≡ 0
+
+-- the change that was seen
+abbrev pub changeOf : Seen → Change
+changeOf r = record { steps = r .steps; word = r .word }
 
 -- steps are made in place, at most `left`: from the first `size` words of t to those of u, the others being left; what comes next is at
 -- the site, whose number on the path is noted

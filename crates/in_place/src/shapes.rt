@@ -3,6 +3,7 @@ use numbers::size_of_word;
 use words::slices::same;
 use words::terms::arity;
 ghost use mathlib.Core.Path.{_≡_};
+ghost use mathlib.Core.Logic.{_↔_};
 ghost use mathlib.Core.Bool.{true};
 ghost use Prim.Native.Nat.{_+_, _≤_};
 ghost use lib.ListN.{length, take, drop};
@@ -15,7 +16,7 @@ const VARS: [u16; 8] = [64, 65, 66, 67, 68, 69, 70, 71];
 // Whether the words from `at` on are the first n variables in order.
 fn are_vars(words: &[u16], at: usize, n: usize) -> bool
     requires { ⌜ (n ≤ 8) × (at + n ≤ length (now words)) ⌝ }
-    ensures { λ r. ⌜ (r ≡ true → take n (drop at (now (words .entry))) ≡ vars 64 n) ⌝ }
+    ensures { λ r. ⌜ ((r ≡ true) ↔ (take n (drop at (now (words .entry))) ≡ vars 64 n)) ⌝ }
 {
     let to = at + n;
     same(&words[at..to], &VARS[0..n])
@@ -32,7 +33,7 @@ pub fn parts(arities: &[u8], w: u16) -> usize
 // Whether the rule's left side is a(x1..xn).
 pub fn is_call(rule: &[u16], a: u16, n: usize) -> bool
     requires { ⌜ n ≤ 255 ⌝ }
-    ensures { λ r. ⌜ (r ≡ true → Calls (now (rule .entry)) a n) ⌝ }
+    ensures { λ r. ⌜ ((r ≡ true) ↔ Calls (now (rule .entry)) a n) ⌝ }
 {
     if 8 < n {
         return false;
@@ -55,7 +56,7 @@ pub fn is_call(rule: &[u16], a: u16, n: usize) -> bool
 // Whether its right side is b(x1..xn).
 pub fn is_renaming(rule: &[u16], n: usize) -> bool
     requires { ⌜ n ≤ 8 ⌝ }
-    ensures { λ r. ⌜ (r ≡ true → Renames (now (rule .entry)) n) ⌝ }
+    ensures { λ r. ⌜ ((r ≡ true) ↔ Renames (now (rule .entry)) n) ⌝ }
 {
     if rule.len() != 2 * n + 4 {
         return false;
@@ -69,7 +70,7 @@ pub fn is_renaming(rule: &[u16], n: usize) -> bool
 // Whether its right side is guard(isData(x), b(x1..xn)), where x is one of the variables and b has n parts.
 pub fn is_test(arities: &[u8], rule: &[u16], n: usize) -> bool
     requires { ⌜ n ≤ 8 ⌝ }
-    ensures { λ r. ⌜ (r ≡ true → Tests (now (arities .entry)) (now (rule .entry)) n) ⌝ }
+    ensures { λ r. ⌜ ((r ≡ true) ↔ Tests (now (arities .entry)) (now (rule .entry)) n) ⌝ }
 {
     if rule.len() != 2 * n + 7 {
         return false;

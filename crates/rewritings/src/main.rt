@@ -1,10 +1,12 @@
 // Prints the rewriter's term after every number of steps, and how the run ends, for some programs and questions: traces that two
-// other implementations agree on.
+// other implementations agree on. Each run is made twice, with steps in place and with every step into the other buffer; where the two
+// differ, in the ending, the count or a word of either buffer, it says so.
 use libc::STDOUT_FILENO;
 use rewriter::Answer;
 use rewriter::ending::Base;
 use rewriter::ending::Said;
 use rewriter::rewrite;
+use rewriter::rewrite_each;
 use rules::index::index_of;
 use rules::table::standing_list;
 ghost use Prim.Native.Nat.{_≤_};
@@ -77,7 +79,68 @@ fn print_words(words: &[u16]) {
     }
 }
 
-// Rewrites within so many steps, prints the first buffer's term, and answers how the run ends.
+fn base_number(b: Base) -> usize {
+    match b {
+        Base::Zero => 0,
+        Base::True => 1,
+        Base::False => 2,
+    }
+}
+
+// An ending as two numbers: which one it is, and what it says.
+fn kind_of(said: Said) -> usize {
+    match said {
+        Said::Value(k, b) => base_number(b),
+        Said::Raised(e) => 3,
+        Said::Stuck(s) => 4,
+        Said::Out => 5,
+        Said::Big => 6,
+    }
+}
+
+fn said_number(said: Said) -> usize {
+    match said {
+        Said::Value(k, b) => k as usize,
+        Said::Raised(e) => e as usize,
+        Said::Stuck(s) => s as usize,
+        Said::Out => 0,
+        Said::Big => 0,
+    }
+}
+
+fn same_answer(one: Answer, other: Answer) -> bool {
+    let said = one.said;
+    let other_said = other.said;
+    if kind_of(said) != kind_of(other_said) {
+        return false;
+    }
+    if said_number(said) != said_number(other_said) {
+        return false;
+    }
+    one.steps == other.steps
+}
+
+fn same_words(one: &[u16], other: &[u16]) -> bool {
+    if one.len() != other.len() {
+        return false;
+    }
+    let mut i = 0;
+    while i < one.len() {
+        if one[i] != other[i] {
+            return false;
+        }
+        i += 1;
+    }
+    true
+}
+
+fn say_differs(same: bool) {
+    if !same {
+        io::write_all(STDOUT_FILENO, b"differs\n");
+    }
+}
+
+// Rewrites within so many steps in each of the two ways, prints the term that the one leaves, and answers how the other ends.
 fn after<'a>(
     standing: &'a [u16],
     own: &'a [u16],
@@ -93,20 +156,19 @@ fn after<'a>(
     let mut first = [7u16; 513];
     let mut second = [7u16; 513];
     let a = rewrite(
-        arities,
-        standing,
-        own,
-        standing_index,
-        own_index,
-        question,
-        &mut first,
-        &mut second,
-        steps,
-        room,
+        arities, standing, own, standing_index, own_index, question, &mut first, &mut second, steps, room,
+    );
+    let mut first_each = [7u16; 513];
+    let mut second_each = [7u16; 513];
+    let b = rewrite_each(
+        arities, standing, own, standing_index, own_index, question, &mut first_each, &mut second_each, steps, room,
     );
     print_words(&first);
     io::write_all(STDOUT_FILENO, b"\n");
-    a
+    say_differs(same_answer(a, b));
+    say_differs(same_words(&first, &first_each));
+    say_differs(same_words(&second, &second_each));
+    b
 }
 
 // The same for every number of steps up to the most, and then how the run ends.

@@ -21,13 +21,15 @@ use Rattle.turns.specs.declared.run.Ending.{Ending}
 use Rattle.turns.specs.declared.run.Ending.the-variants.{Done, Out, Big}
 use Rattle.turns.specs.declared.run.Driven.{Driven}
 use Rattle.turns.specs.declared.run.Ran.{Ran}
+use Rattle.turns.specs.declared.run.Move.{Move}
 use Rattle.turns.specs.declared.run.Move.the-variants.{Stop, Go}
+use Rattle.turns.specs.declared.run.Outcome.{Outcome}
 use Rattle.rules.specs.declared.finding.Fitting.{Fitting}
 use Rattle.place.specs.Noted.{OnPath}
 use Rattle.in_place.specs.InPlace.{Leads, Passing}
 use Rattle.in_place.specs.declared.Passed.{Passed}
 use Rattle.step.specs.Next.{nextIn, made, placedNext, OnNext}
-use Rattle.turns.specs.Run.{source, Turned, Drove, isNothing, decided, Last, stop, go, run, runFrom, ranOf}
+use Rattle.turns.specs.Run.{source, Turned, Rounded, Drove, endedWith, isNothing, decided, Last, stop, go, run, runFrom, ranOf}
 
 -- ---- a run's first turn
 module _ (next : List ℕ → Option (List ℕ)) (room n : ℕ) (t : List ℕ) where
@@ -174,6 +176,18 @@ pub record Going (next : List ℕ → Option (List ℕ)) (room allowance : ℕ) 
   pub first-length : length f ≡ length f₀
   pub second-length : length s ≡ length s₀
 
+pub going-start : (next : List ℕ → Option (List ℕ)) (room allowance len : ℕ) (f s : List ℕ) → len ≤ room → Going next room allowance (take len f) f s f s false len 0
+going-start next room allowance len f s h =
+    record {
+      within = omega arith;
+      fits = h;
+      rest = ap (λ (m : ℕ). run next room m 0 (take len f)) (sym (sub-zero allowance));
+      first-rest = refl;
+      second-rest = refl;
+      first-length = refl;
+      second-length = refl;
+    }
+
 -- steps that are made in place, in the buffer that holds the term
 module _ (ks : List ℕ) (find : List ℕ → Fitting) (next : List ℕ → Option (List ℕ)) (flip : Bool) (room left size : ℕ) (f s path : List ℕ) (r : Passed) where
   abbrev Settled : List ℕ → List ℕ → Type 0
@@ -206,17 +220,19 @@ two-rests flip room size f s f′ s′ h e q = go flip e q
     go false e q = (further f′ f e, ap (drop room) q)
     go true e q = (ap (drop room) q, further s′ s e)
 
-pub settles : (ks : List ℕ) (find : List ℕ → Fitting) (next : List ℕ → Option (List ℕ)) (room allowance : ℕ) (t₀ f₀ s₀ f s f′ s′ path : List ℕ) (flip : Bool) (size steps : ℕ) (r : Passed)
-    → Going next room allowance t₀ f₀ s₀ f s flip size steps → Passing ks find next room (allowance - steps) size (source flip f s) (source flip f′ s′) path r → source flip s′ f′ ≡ source flip s f
-    → length f′ ≡ length f → length s′ ≡ length s → Going next room allowance t₀ f₀ s₀ f′ s′ flip size (steps + r .steps)
-settles ks find next room allowance t₀ f₀ s₀ f s f′ s′ path flip size steps r g h e lf ls =
-    let rests = two-rests flip room size f s f′ s′ (g .fits) (h .rest) e in
-    let z : allowance - steps - r .steps ≡ allowance - (steps + r .steps) = omega arith in
+settles : (next : List ℕ → Option (List ℕ)) (room allowance : ℕ) (t₀ f₀ s₀ f s f′ s′ : List ℕ) (flip : Bool) (size steps m : ℕ)
+    → Going next room allowance t₀ f₀ s₀ f s flip size steps → steps ≤ m → m ≤ allowance → Leads next room (m - steps) (take size (source flip f s)) (take size (source flip f′ s′))
+    → drop size (source flip f′ s′) ≡ drop size (source flip f s) → source flip s′ f′ ≡ source flip s f → length f′ ≡ length f → length s′ ≡ length s
+    → Going next room allowance t₀ f₀ s₀ f′ s′ flip size m
+settles next room allowance t₀ f₀ s₀ f s f′ s′ flip size steps m g more within leads rest e lf ls =
+    let rests = two-rests flip room size f s f′ s′ (g .fits) rest e in
+    let left : allowance - steps - (m - steps) ≡ allowance - m = omega arith in
+    let made : steps + (m - steps) ≡ m = omega arith in
     record {
-      within = omega (arith, g .within, h .within);
+      within = within;
       fits = g .fits;
-      rest = g .rest ∙ run-leads next room (r .steps) (allowance - steps) steps (take size (source flip f s)) (take size (source flip f′ s′)) (h .leads) (h .within)
-          ∙ ap (λ (k : ℕ). run next room k (steps + r .steps) (take size (source flip f′ s′))) z;
+      rest = g .rest ∙ run-leads next room (m - steps) (allowance - steps) steps (take size (source flip f s)) (take size (source flip f′ s′)) leads (omega arith)
+          ∙ ap₂ (λ (i j : ℕ). run next room i j (take size (source flip f′ s′))) left made;
       first-rest = rests .0 ∙ g .first-rest;
       second-rest = rests .1 ∙ g .second-rest;
       first-length = lf ∙ g .first-length;
@@ -339,6 +355,81 @@ module _ (next : List ℕ → Option (List ℕ)) (room allowance : ℕ) (t₀ f�
       let short : length u ≤ room = omega arith in
       let here = ap (λ (m : ℕ). take m (source (not flip) f′ s′)) (sym (says .1 .1 .0)) ∙ turned-next next flip room size f s f′ s′ u h (says .1 .0) short (omega arith) (omega arith) in
       subst (λ (t : List ℕ). OnPath ks t path last) (sym here) (subst (λ (o : Option (List ℕ)). OnNext ks o path last) (says .1 .0) on)
+
+-- ---- a round, as steps in place and then a turn
+pub rounded : (ks : List ℕ) (find : List ℕ → Fitting) (next : List ℕ → Option (List ℕ)) (flip : Bool) (room size steps allowance : ℕ) (f s f₁ s₁ f′ s′ path : List ℕ) (p : Passed) (made : Next) (follows : Move)
+    → steps ≤ allowance → Passing ks find next room (allowance - steps) size (source flip f s) (source flip f₁ s₁) path p → source flip s₁ f₁ ≡ source flip s f
+    → OnNext ks (next (take size (source flip f₁ s₁))) path (p .number) → made ≡ nextIn room (next (take size (source flip f₁ s₁))) → Turned next flip room size f₁ s₁ f′ s′
+    → follows ≡ decided made (steps + p .steps) allowance
+    → Rounded ks next flip room size steps allowance f s f′ s′ path (record { next = follows; steps = steps + p .steps; number = p .number })
+rounded ks find next flip room size steps allowance f s f₁ s₁ f′ s′ path p made follows few h e on q t d =
+    let kept : source flip f₁ s₁ ≡ source flip f′ s′ = sym (t .kept) in
+    let m : p .steps ≡ steps + p .steps - steps = omega arith in
+    record {
+      more = omega arith;
+      within = omega (arith, h .within);
+      leads = subst₂ (λ (k : ℕ) (x : List ℕ). Leads next room k (take size (source flip f s)) (take size x)) m kept (h .leads);
+      rest = ap (drop size) (t .kept) ∙ h .rest;
+      other = t .other ∙ ap₂ (λ (x y : List ℕ). placedNext room (next (take size x)) y) kept e;
+      move = d ∙ ap (λ (o : Next). decided o (steps + p .steps) allowance) (q ∙ ap (λ (x : List ℕ). nextIn room (next (take size x))) kept);
+      on = subst (λ (x : List ℕ). OnNext ks (next (take size x)) path (p .number)) kept on;
+    }
+
+-- the buffers between the two: the one that holds the term is as it is at the end, the other as it came
+between : (flip : Bool) (f s f′ s′ : List ℕ) → source flip (source flip f′ f) (source flip s s′) ≡ source flip f′ s′
+between false f s f′ s′ = refl
+between true f s f′ s′ = refl
+
+between-other : (flip : Bool) (f s f′ s′ : List ℕ) → source flip (source flip s s′) (source flip f′ f) ≡ source flip s f
+between-other false f s f′ s′ = refl
+between-other true f s f′ s′ = refl
+
+between-lengths : (flip : Bool) (f s f′ s′ : List ℕ) → length f′ ≡ length f → length s′ ≡ length s → (length (source flip f′ f) ≡ length f) × (length (source flip s s′) ≡ length s)
+between-lengths false f s f′ s′ lf ls = (lf, refl)
+between-lengths true f s f′ s′ lf ls = (refl, ls)
+
+module _ (ks : List ℕ) (next : List ℕ → Option (List ℕ)) (room allowance : ℕ) (t₀ f₀ s₀ f s f′ s′ path : List ℕ) (flip : Bool) (size steps : ℕ) (r : Outcome) (g : Going next room allowance t₀ f₀ s₀ f s flip size steps)
+    (h : Rounded ks next flip room size steps allowance f s f′ s′ path r) (rf : room ≤ length f₀) (rs : room ≤ length s₀) (lf : length f′ ≡ length f) (ls : length s′ ≡ length s) where
+  abbrev f₁ : List ℕ
+  f₁ = source flip f′ f
+
+  abbrev s₁ : List ℕ
+  s₁ = source flip s s′
+
+  same : source flip f₁ s₁ ≡ source flip f′ s′
+  same = between flip f s f′ s′
+
+  lengths : (length f₁ ≡ length f) × (length s₁ ≡ length s)
+  lengths = between-lengths flip f s f′ s′ lf ls
+
+  going : Going next room allowance t₀ f₀ s₀ f₁ s₁ flip size (r .steps)
+  going =
+      settles next room allowance t₀ f₀ s₀ f s f₁ s₁ flip size steps (r .steps) g (h .more) (h .within)
+      (subst (λ (x : List ℕ). Leads next room (r .steps - steps) (take size (source flip f s)) (take size x)) (sym same) (h .leads)) (ap (drop size) same ∙ h .rest) (between-other flip f s f′ s′) (lengths .0) (lengths .1)
+
+  turned : Turned next flip room size f₁ s₁ f′ s′
+  turned =
+      record {
+        kept = sym same;
+        other = h .other ∙ ap₂ (λ (x y : List ℕ). placedNext room (next (take size x)) y) (sym same) (sym (between-other flip f s f′ s′));
+      }
+
+  follows : (m : Move) → r .next ≡ m → decided (nextIn room (next (take size (source flip f₁ s₁)))) (r .steps) allowance ≡ m
+  follows m q = ap (λ (x : List ℕ). decided (nextIn room (next (take size x))) (r .steps) allowance) same ∙ sym (h .move) ∙ q
+
+  pub round-stopped : (ending : Ending) (n : ℕ) → r .next ≡ Stop ending n → Drove room (run next room allowance 0 t₀) (endedWith ending n size flip) f₀ s₀ f′ s′
+  round-stopped ending n q = stopped next room allowance t₀ f₀ s₀ f₁ s₁ f′ s′ flip size (r .steps) going turned rf rs ending n (follows (Stop ending n) q)
+
+  pub round-left : (n : ℕ) → r .next ≡ Go n → r .steps < allowance
+  round-left n q = less-left next room allowance t₀ f₀ s₀ f₁ s₁ f′ s′ flip size (r .steps) going turned rf rs n (follows (Go n) q)
+
+  pub round-goes-on : (n : ℕ) → r .next ≡ Go n → Going next room allowance t₀ f₀ s₀ f′ s′ (not flip) n (r .steps + 1) × OnPath ks (take n (source (not flip) f′ s′)) path (r .number)
+  round-goes-on n q =
+      let m = follows (Go n) q in (
+        goes-on next room allowance t₀ f₀ s₀ f₁ s₁ f′ s′ flip size (r .steps) going turned rf rs n m (lf ∙ sym (lengths .0)) (ls ∙ sym (lengths .1)),
+        goes-on-path next room allowance t₀ f₀ s₀ f₁ s₁ f′ s′ flip size (r .steps) going turned rf rs ks path (r .number) n m (going .first-length) (going .second-length)
+            (subst (λ (x : List ℕ). OnNext ks (next (take size x)) path (r .number)) (sym same) (h .on)),
+      )
 
 -- ---- the buffers set in order
 pub fetched-none : (flip : Bool) (size : ℕ) (f s : List ℕ) → flip ≡ false → f ≡ over (take size (source flip f s)) f

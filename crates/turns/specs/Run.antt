@@ -16,7 +16,9 @@ use Rattle.turns.specs.declared.run.Move.{Move}
 use Rattle.turns.specs.declared.run.Move.the-variants.{Stop, Go}
 use Rattle.turns.specs.declared.run.Ran.{Ran}
 use Rattle.turns.specs.declared.run.Driven.{Driven}
-use Rattle.step.specs.Next.{placedNext}
+use Rattle.turns.specs.declared.run.Outcome.{Outcome}
+use Rattle.step.specs.Next.{nextIn, placedNext, OnNext}
+use Rattle.in_place.specs.InPlace.{Leads}
 
 -- the buffer that holds the term: the first, or the second where they have changed over
 abbrev pub source : Bool → List ℕ → List ℕ → List ℕ
@@ -38,6 +40,17 @@ unfoldable pub decided : Next → ℕ → ℕ → Move
 decided Nothing steps allowance = Stop Done steps
 decided Over steps allowance = pick (leb allowance steps) (Stop Out steps) (Stop Big (steps + 1))
 decided (Made n) steps allowance = pick (leb allowance steps) (Stop Out steps) (Go n)
+
+-- a round: steps in place lead to the term that the one buffer holds then, and the turn makes the next one from it in the other; the path is
+-- noted up to the place of the turn
+pub record Rounded (ks : List ℕ) (next : List ℕ → Option (List ℕ)) (flip : Bool) (room size steps allowance : ℕ) (f s f′ s′ path : List ℕ) (r : Outcome) : Type 0 where
+  pub more : steps ≤ r .steps
+  pub within : r .steps ≤ allowance
+  pub leads : Leads next room (r .steps - steps) (take size (source flip f s)) (take size (source flip f′ s′))
+  pub rest : drop size (source flip f′ s′) ≡ drop size (source flip f s)
+  pub other : source flip s′ f′ ≡ placedNext room (next (take size (source flip f′ s′))) (source flip s f)
+  pub move : r .next ≡ decided (nextIn room (next (take size (source flip f′ s′)))) (r .steps) allowance
+  pub on : OnNext ks (next (take size (source flip f′ s′))) path (r .number)
 
 -- how a run ends, after how many steps, and its last term
 pub record Last : Type 0 where
@@ -67,6 +80,9 @@ runFrom next room allowance t = pick (leb (length t) room) (run next room allowa
 -- the answer of a run
 abbrev pub ranOf : Last → Ran
 ranOf l = record { ending = l .ending; steps = l .steps; len = length (l .term) }
+
+abbrev pub endedWith : Ending → ℕ → ℕ → Bool → Driven
+endedWith ending steps len flip = record { ending = ending; steps = steps; len = len; flip = flip }
 
 -- a run's turns, before the buffers are set in order
 pub record Drove (room : ℕ) (l : Last) (r : Driven) (f s f′ s′ : List ℕ) : Type 0 where

@@ -20,7 +20,7 @@ ghost use Rattle.place.specs.Path.{siteAt};
 ghost use Rattle.place.specs.Noted.{OnPath};
 ghost use Rattle.step.specs.Next.{nextW, nextIn};
 ghost use Rattle.in_place.specs.InPlace.{Passing};
-ghost use Rattle.turns.specs.Run.{Turned, Drove, isNothing, decided, source, ranOf, run, runFrom};
+ghost use Rattle.turns.specs.Run.{Turned, Rounded, Drove, endedWith, isNothing, decided, source, ranOf, run, runFrom};
 
 // How a run ends.
 pub enum Ending {
@@ -51,6 +51,24 @@ pub struct Driven {
 pub enum Move {
     Stop(Ending, usize),
     Go(usize),
+}
+
+pub(crate) fn ended(ending: Ending, steps: usize, len: usize, flip: bool) -> Driven
+    ensures { λ r. ⌜ r ≡ endedWith ending steps len flip ⌝ }
+{
+    Driven {
+        ending,
+        steps,
+        len,
+        flip,
+    }
+}
+
+// What a round comes to: what follows it, the steps made up to its turn, and the number on the path of the place that the turn rewrites.
+pub struct Outcome {
+    pub next: Move,
+    pub steps: usize,
+    pub number: usize,
 }
 
 // Makes steps in place in the buffer that holds the term, as long as the next ones are of that kind and no more than `left`.
@@ -111,7 +129,7 @@ fn settle<'a>(
 }
 
 // A turn: from the buffer that holds the term to the other.
-fn turn<'a>(
+pub(crate) fn turn<'a>(
     arities: &[u8],
     standing: &'a [u16],
     own: &'a [u16],
@@ -174,7 +192,7 @@ fn is_spent(steps: usize, allowance: usize) -> bool
 
 // What follows a turn after so many steps: where nothing fits, the run is done; else where the steps are used up, it is out of them;
 // else where the next term does not fit the room, it is too big, that step counted; else it goes on.
-fn decide(next: Next, steps: usize, allowance: usize) -> Move
+pub(crate) fn decide(next: Next, steps: usize, allowance: usize) -> Move
     ensures { λ r. ⌜ r ≡ decided next steps allowance ⌝ }
 {
     let finished = is_nothing(next);
@@ -191,7 +209,71 @@ fn decide(next: Next, steps: usize, allowance: usize) -> Move
     Move::Stop(Ending::Big, steps + 1)
 }
 
-// The turns of a run. The path to the place that was rewritten last is noted, from the root on.
+// A round: steps in place, then a turn, and what follows it.
+fn round<'a>(
+    arities: &[u8],
+    standing: &'a [u16],
+    own: &'a [u16],
+    standing_index: &[usize],
+    own_index: &[usize],
+    first: &mut [u16],
+    second: &mut [u16],
+    flip: bool,
+    size: usize,
+    room: usize,
+    steps: usize,
+    allowance: usize,
+    usual: bool,
+    path: &mut [usize],
+    last: usize,
+) -> Outcome
+    requires { ⌜ (size ≤ room) × ((room ≤ length (now first)) × ((room ≤ length (now second)) × ((room ≤ 65536) × (room < length (now path))))) ⌝ }
+    requires { ⌜ OnPath (now arities) (take size (source flip (now first) (now second))) (now path) last ⌝ }
+    requires { ⌜ (usual ≡ true → Usual (now standing) (now «standing_index») (now «own_index»)) ⌝ }
+    requires { ⌜ (steps ≤ allowance) × (allowance ≤ 1000000) ⌝ }
+    ensures { λ r. ⌜ Rounded (now (arities .entry)) (nextW (now (arities .entry)) (now (standing .entry)) (now (own .entry)) (now («standing_index» .entry)) (now («own_index» .entry))) flip room size steps allowance (now (first .entry)) (now (second .entry)) (now (first .exit)) (now (second .exit)) (now (path .exit)) r ⌝ }
+{
+    let passed = settle(
+        arities,
+        standing,
+        own,
+        standing_index,
+        own_index,
+        first,
+        second,
+        flip,
+        size,
+        room,
+        allowance - steps,
+        usual,
+        path,
+        last,
+    );
+    let done = steps + passed.steps;
+    let number = passed.number;
+    let site = passed.site;
+    let made = turn(
+        arities,
+        standing,
+        own,
+        standing_index,
+        own_index,
+        site,
+        first,
+        second,
+        flip,
+        size,
+        room,
+    );
+    let next = decide(made, done, allowance);
+    Outcome {
+        next,
+        steps: done,
+        number,
+    }
+}
+
+// The rounds of a run. The path to the place that was rewritten last is noted, from the root on.
 fn drive<'a>(
     arities: &[u8],
     standing: &'a [u16],
@@ -203,20 +285,21 @@ fn drive<'a>(
     len: usize,
     allowance: usize,
     room: usize,
+    usual: bool,
     path: &mut [usize],
 ) -> Driven
     requires { ⌜ (len ≤ room) × ((room ≤ length (now first)) × ((room ≤ length (now second)) × ((room ≤ 65536) × (room < length (now path))))) ⌝ }
     requires { ⌜ getD (now path) 0 0 ≡ 0 ⌝ }
+    requires { ⌜ (usual ≡ true → Usual (now standing) (now «standing_index») (now «own_index»)) ⌝ }
     requires { ⌜ allowance ≤ 1000000 ⌝ }
     ensures { λ r. ⌜ Drove room (run (nextW (now (arities .entry)) (now (standing .entry)) (now (own .entry)) (now («standing_index» .entry)) (now («own_index» .entry))) room allowance 0 (take len (now (first .entry)))) r (now (first .entry)) (now (second .entry)) (now (first .exit)) (now (second .exit)) ⌝ }
 {
-    let usual = is_usual(standing, standing_index, own_index);
     let mut flip = false;
     let mut size = len;
     let mut steps = 0;
     let mut last = 0;
     loop {
-        let passed = settle(
+        let done = round(
             arities,
             standing,
             own,
@@ -227,40 +310,22 @@ fn drive<'a>(
             flip,
             size,
             room,
-            allowance - steps,
+            steps,
+            allowance,
             usual,
             path,
             last,
         );
-        steps += passed.steps;
-        last = passed.number;
-        let site = passed.site;
-        let next = turn(
-            arities,
-            standing,
-            own,
-            standing_index,
-            own_index,
-            site,
-            first,
-            second,
-            flip,
-            size,
-            room,
-        );
-        match decide(next, steps, allowance) {
+        last = done.number;
+        let next = done.next;
+        match next {
             Move::Stop(ending, count) => {
-                return Driven {
-                    ending,
-                    steps: count,
-                    len: size,
-                    flip,
-                };
+                return ended(ending, count, size, flip);
             }
             Move::Go(n) => {
                 flip = !flip;
                 size = n;
-                steps += 1;
+                steps = done.steps + 1;
             }
         }
     }
@@ -277,7 +342,7 @@ fn fetch(first: &mut [u16], second: &[u16], flip: bool, size: usize)
 }
 
 // Sets the buffers in order: the term in the first, then zeros; zeros in the second.
-fn tidy(first: &mut [u16], second: &mut [u16], flip: bool, size: usize, room: usize)
+pub(crate) fn tidy(first: &mut [u16], second: &mut [u16], flip: bool, size: usize, room: usize)
     requires { ⌜ (size ≤ room) × ((room ≤ length (now first)) × (room ≤ length (now second))) ⌝ }
     ensures { λ _. ⌜ now (first .exit) ≡ over (padded room (take size (source flip (now (first .entry)) (now (second .entry))))) (now (first .entry)) ⌝ }
     ensures { λ _. ⌜ now (second .exit) ≡ over (replicate room 0) (now (second .entry)) ⌝ }
@@ -307,6 +372,7 @@ pub fn run_in<'a>(
     ensures { λ _. ⌜ now (first .exit) ≡ over (padded room (run (nextW (now (arities .entry)) (now (standing .entry)) (now (own .entry)) (now («standing_index» .entry)) (now («own_index» .entry))) room allowance 0 (take len (now (first .entry))) .term)) (now (first .entry)) ⌝ }
     ensures { λ _. ⌜ now (second .exit) ≡ over (replicate room 0) (now (second .entry)) ⌝ }
 {
+    let usual = is_usual(standing, standing_index, own_index);
     let mut path = [0usize; 4097];
     let d = drive(
         arities,
@@ -319,6 +385,7 @@ pub fn run_in<'a>(
         len,
         allowance,
         room,
+        usual,
         &mut path,
     );
     let flip = d.flip;

@@ -68,7 +68,7 @@ calls : (c : tie.Else1)
     → let rule = c .before .before .before .before in
     let site = rule .before .before in
     Calls (rule .rule-of .result .now) (getD (site .before .before .before .before .before .before .before .before .before .args .term .now) (site .site .given .0 .0) 0) (c .before .before .parts .result)
-calls c = c .before .is-call .ensures (not-false _ (c .if1 .left))
+calls c = c .before .is-call .ensures .0 (not-false _ (c .if1 .left))
 
 is-renaming-requires : tie.Need-is-renaming-requires
 is-renaming-requires c κs = calls c .few
@@ -80,7 +80,7 @@ mul-t25 : tie.Need-mul-t25
 mul-t25 c = search needs
 
 shared-slice-read-t27 : tie.Need-shared-slice-read-t27
-shared-slice-read-t27 c = let r = c .before .before .is-renaming .ensures (c .before .if2 .taken) in omega (arith, r .long)
+shared-slice-read-t27 c = let r = c .before .before .is-renaming .ensures .0 (c .before .if2 .taken) in omega (arith, r .long)
 
 returns-3 : tie.Need-returns-3
 returns-3 c =
@@ -91,7 +91,7 @@ returns-3 c =
     let a = start .args in
     renaming-changes (a .arities .now) (a .standing .now) (a .own .now) (a .standing-index .now) (a .own-index .now) (a .term .now) (a .path .now) (a .room) (a .number) (one .before .before .parts .result) (a .site)
     (start .pre .1 .0) (start .pre .1 .1 .0) (site .site .given .0 .0) (site .site .given .0 .1 .0) (site .site .given .1) (start .pre .0 .0) (rule .rule-of .result .now)
-    (handed-words (a .standing) (a .own) (rule .rule-of .result) (site .site .given .0 .1 .0) (rule .rule-of .ensures)) (calls one) (c .before .before .is-renaming .ensures (c .before .if2 .taken))
+    (handed-words (a .standing) (a .own) (rule .rule-of .result) (site .site .given .0 .1 .0) (rule .rule-of .ensures)) (calls one) (c .before .before .is-renaming .ensures .0 (c .before .if2 .taken))
 
 returns-4 : tie.Need-returns-4
 returns-4 c =
@@ -112,7 +112,7 @@ returns-5 c =
 tests : (c : tie.Else4)
     → let rule = c .before .before .before .before .before .before .before .before .before in
     Tests (rule .before .before .before .before .before .before .before .before .before .before .before .args .arities .now) (rule .rule-of .result .now) (c .before .before .before .before .before .before .before .parts .result)
-tests c = c .before .is-test .ensures (not-false _ (c .if4 .left))
+tests c = c .before .is-test .ensures .0 (not-false _ (c .if4 .left))
 
 add-skip-many : tie.Need-add-skip-many
 add-skip-many c =
@@ -169,14 +169,12 @@ returns-7 c =
     let rule = one .before .before .before .before in
     let site = rule .before .before in
     let start = site .before .before .before .before .before .before .before .before .before in
-    let a = start .args in (
-      test-changes (a .arities .now) (a .standing .now) (a .own .now) (a .standing-index .now) (a .own-index .now) (a .term .now) (a .path .now) (a .room) (a .number) (one .before .before .parts .result) (a .site)
-          (start .pre .1 .0) (start .pre .1 .1 .0) (site .site .given .0 .0) (site .site .given .0 .1 .0) (site .site .given .1) (start .pre .0 .0) (rule .rule-of .result .now)
-          (handed-words (a .standing) (a .own) (rule .rule-of .result) (site .site .given .0 .1 .0) (rule .rule-of .ensures)) (calls one)
-          (start .pre .1 .1 .1 (not-false _ (all .before .before .if3 .left))) (tests all) (reached .skip-many .result) (reached .skip-many .ensures)
-          (end .q .given .0 .0) (c .before .test-steps .result) (end .q .given .1) (c .before .test-steps .ensures .0),
-      c .before .test-steps .ensures .1,
-    )
+    let a = start .args in
+    test-changes (a .arities .now) (a .standing .now) (a .own .now) (a .standing-index .now) (a .own-index .now) (a .term .now) (a .path .now) (a .room) (a .number) (one .before .before .parts .result) (a .site)
+    (start .pre .1 .0) (start .pre .1 .1 .0) (site .site .given .0 .0) (site .site .given .0 .1 .0) (site .site .given .1) (start .pre .0 .0) (rule .rule-of .result .now)
+    (handed-words (a .standing) (a .own) (rule .rule-of .result) (site .site .given .0 .1 .0) (rule .rule-of .ensures)) (calls one)
+    (start .pre .1 .1 .1 (not-false _ (all .before .before .if3 .left))) (tests all) (reached .skip-many .result) (reached .skip-many .ensures)
+    (end .q .given .0 .0) (c .before .test-steps .result) (end .q .given .1) (c .before .test-steps .ensures .0)
 
 pub change-at-spec : {M : Type 1} → statement M
 change-at-spec =

@@ -6,6 +6,7 @@ use native.Mathlib.Omega.{arith}
 use borrow.Author.Needs.{needs}
 use lib.ListN.{length, getD, set}
 use lib.Seq.{length-take-le}
+use Rattle.in_place.specs.InPlace.{changeOf}
 use Rattle.in_place.proofs.Passes.{Going, going-start, stopped, goes-on}
 use Rattle.in_place.proofs.pass.Statement.{statement}
 use Rattle.in_place.proofs.pass.Tie as tie
@@ -27,108 +28,92 @@ loop-holds c =
 holds : (c : tie.At-loop Inv-loop μ-loop) → c .before .before .before .before .before .before .before .before .args .size ≤ length (c .loop .term)
 holds c = omega (arith, c .loop .inv .same, c .before .before .before .before .before .before .before .before .pre .0)
 
-slice-reshare-prefix-site-on : tie.Need-slice-reshare-prefix-site-on Inv-loop μ-loop
-slice-reshare-prefix-site-on c = holds c
+slice-reshare-prefix-look : tie.Need-slice-reshare-prefix-look Inv-loop μ-loop
+slice-reshare-prefix-look c = holds c
 
-slice-aggregate-site-on : tie.Need-slice-aggregate-site-on Inv-loop μ-loop
-slice-aggregate-site-on c = sym (length-take-le (c .before .before .before .before .before .before .before .before .before .args .size) (c .before .loop .term) (holds (c .before)))
+slice-aggregate-look : tie.Need-slice-aggregate-look Inv-loop μ-loop
+slice-aggregate-look c = sym (length-take-le (c .before .before .before .before .before .before .before .before .before .args .size) (c .before .loop .term) (holds (c .before)))
 
-site-on-requires : tie.Need-site-on-requires Inv-loop μ-loop
-site-on-requires c κs =
+look-requires : tie.Need-look-requires Inv-loop μ-loop
+look-requires c κs =
     let at = c .before .before in
     let start = at .before .before .before .before .before .before .before .before in
     (omega (arith, length-take-le (start .args .size) (at .loop .term) (holds at), at .loop .inv .path-same, start .pre .0), (at .loop .inv .on, start .pre .1 .1 .0))
 
-slice-reshare-prefix-change-at : tie.Need-slice-reshare-prefix-change-at Inv-loop μ-loop
-slice-reshare-prefix-change-at c = holds (c .before .before .before .before .before)
-
-slice-aggregate-change-at : tie.Need-slice-aggregate-change-at Inv-loop μ-loop
-slice-aggregate-change-at c =
-    let at = c .before .before .before .before .before .before in
-    sym (length-take-le (at .before .before .before .before .before .before .before .before .args .size) (at .loop .term) (holds at))
-
-change-at-requires : tie.Need-change-at-requires Inv-loop μ-loop
-change-at-requires c κs =
-    let found = c .before .before .before .before in
-    let at = found .before .before .before in
-    let start = at .before .before .before .before .before .before .before .before in
-    (omega (arith, length-take-le (start .args .size) (at .loop .term) (holds at), start .pre .0), (found .site-on .ensures .0, (found .site-on .ensures .1, start .pre .1 .1 .0)))
-
 same-length : tie.Need-same-length Inv-loop μ-loop
-same-length c = c .before .before .before .before .before .before .before .before .before .loop .inv .same
+same-length c = c .before .before .before .before .before .before .loop .inv .same
 
 same-length-2 : tie.Need-same-length-2 Inv-loop μ-loop
-same-length-2 c = c .before .before .before .before .before .before .site-on .kept .1 .1 .1 .1 .1 .1 .1 .0 ∙ c .before .before .before .before .before .before .before .before .before .loop .inv .path-same
+same-length-2 c = c .before .before .before .look .kept .1 .1 .1 .1 .1 .1 .1 .1 .0 ∙ c .before .before .before .before .before .before .loop .inv .path-same
 
 returns : tie.Need-returns Inv-loop μ-loop
 returns c =
-    let found = c .before .before .before .before .before .before in
-    let at = found .before .before .before in
+    let seen = c .before .before .before in
+    let at = seen .before .before .before in
     let a = at .before .before .before .before .before .before .before .before .args in
     stopped (a .arities .now) (a .standing .now) (a .own .now) (a .standing-index .now) (a .own-index .now) (a .room) (a .left) (a .size) (a .term .now) (a .path .now) (at .loop .term) (at .loop .path) (at .loop .steps) (at .loop .n)
-    (at .loop .inv) (found .site-on .result .site) (found .site-on .result .number) (found .site-on .last .1 .1 .1 .1 .1 .1 .1 .0) (found .site-on .ensures .0) (found .site-on .ensures .1)
+    (at .loop .inv) (seen .look .result .site) (seen .look .result .number) (seen .look .last .1 .1 .1 .1 .1 .1 .1 .1 .0) (seen .look .ensures .0) (seen .look .ensures .1 .0)
 
 sub-if2 : tie.Need-sub-if2 Inv-loop μ-loop
-sub-if2 c = c .before .before .before .before .before .before .before .before .before .loop .inv .within
+sub-if2 c = c .before .before .before .before .before .before .loop .inv .within
 
 same-length-3 : tie.Need-same-length-3 Inv-loop μ-loop
-same-length-3 c = c .before .before .before .before .before .before .before .before .before .before .loop .inv .same
+same-length-3 c = c .before .before .before .before .before .before .before .loop .inv .same
 
 same-length-4 : tie.Need-same-length-4 Inv-loop μ-loop
-same-length-4 c = c .before .before .before .before .before .before .before .site-on .kept .1 .1 .1 .1 .1 .1 .1 .0 ∙ c .before .before .before .before .before .before .before .before .before .before .loop .inv .path-same
+same-length-4 c = c .before .before .before .before .look .kept .1 .1 .1 .1 .1 .1 .1 .1 .0 ∙ c .before .before .before .before .before .before .before .loop .inv .path-same
 
 returns-2 : tie.Need-returns-2 Inv-loop μ-loop
 returns-2 c =
-    let found = c .before .before .before .before .before .before .before in
-    let at = found .before .before .before in
+    let seen = c .before .before .before .before in
+    let at = seen .before .before .before in
     let a = at .before .before .before .before .before .before .before .before .args in
     stopped (a .arities .now) (a .standing .now) (a .own .now) (a .standing-index .now) (a .own-index .now) (a .room) (a .left) (a .size) (a .term .now) (a .path .now) (at .loop .term) (at .loop .path) (at .loop .steps) (at .loop .n)
-    (at .loop .inv) (found .site-on .result .site) (found .site-on .result .number) (found .site-on .last .1 .1 .1 .1 .1 .1 .1 .0) (found .site-on .ensures .0) (found .site-on .ensures .1)
+    (at .loop .inv) (seen .look .result .site) (seen .look .result .number) (seen .look .last .1 .1 .1 .1 .1 .1 .1 .1 .0) (seen .look .ensures .0) (seen .look .ensures .1 .0)
 
 -- a further change is made
 further : (c : tie.Else2 Inv-loop μ-loop)
-    → let found = c .before .before .before .before .before .before .before in
-    let at = found .before .before .before in
+    → let seen = c .before .before .before .before in
+    let at = seen .before .before .before in
     let a = at .before .before .before .before .before .before .before .before .args in
-    let path = found .site-on .last .1 .1 .1 .1 .1 .1 .1 .0 in
-    let p = getD path (found .site-on .result .number) 0 in
-    (p < a .size) × (found .site-on .result .number ≤ a .size)
+    let path = seen .look .last .1 .1 .1 .1 .1 .1 .1 .1 .0 in
+    let p = getD path (seen .look .result .number) 0 in
+    (p < a .size) × (seen .look .result .number ≤ a .size)
     × Going (a .arities .now) (a .standing .now) (a .own .now) (a .standing-index .now) (a .own-index .now) (a .room) (a .left) (a .size) (a .term .now) (a .path .now)
-    (set (at .loop .term) p (c .before .before .change-at .result .word)) path (at .loop .steps + c .before .before .change-at .result .steps) (found .site-on .result .number)
+    (set (at .loop .term) p (seen .look .result .word)) path (at .loop .steps + seen .look .result .steps) (seen .look .result .number)
 further c =
-    let found = c .before .before .before .before .before .before .before in
-    let at = found .before .before .before in
+    let seen = c .before .before .before .before in
+    let at = seen .before .before .before in
     let a = at .before .before .before .before .before .before .before .before .args in
-    let change = c .before .before in
     goes-on (a .arities .now) (a .standing .now) (a .own .now) (a .standing-index .now) (a .own-index .now) (a .room) (a .left) (a .size) (a .term .now) (a .path .now) (at .loop .term) (at .loop .path) (at .loop .steps) (at .loop .n)
-    (at .loop .inv) (found .site-on .result .site) (found .site-on .result .number) (found .site-on .last .1 .1 .1 .1 .1 .1 .1 .0) (found .site-on .ensures .0) (found .site-on .ensures .1)
-    (change .change-at .result) (change .change-at .ensures .0) (c .before .if1 .left) (holds at) (omega (arith, c .if2 .left)) (found .site-on .kept .1 .1 .1 .1 .1 .1 .1 .0)
+    (at .loop .inv) (seen .look .result .site) (seen .look .result .number) (seen .look .last .1 .1 .1 .1 .1 .1 .1 .1 .0) (seen .look .ensures .0) (seen .look .ensures .1 .0)
+    (changeOf (seen .look .result)) (seen .look .ensures .1 .1) (c .before .if1 .left) (holds at) (omega (arith, c .if2 .left)) (seen .look .kept .1 .1 .1 .1 .1 .1 .1 .1 .0)
 
 mul-term : tie.Need-mul-term Inv-loop μ-loop
 mul-term c =
     let low = further c .1 in
-    let small = c .before .before .before .before .before .before .before .before .before .before .before .before .before .before .before .before .before .before .pre .0 in
+    let small = c .before .before .before .before .before .before .before .before .before .before .before .before .before .before .before .pre .0 in
     search needs
 
 slice-read-term : tie.Need-slice-read-term Inv-loop μ-loop
 slice-read-term c =
-    let found = c .before .before .before .before .before .before .before .before in
-    let at = found .before .before .before in
-    omega (arith, further (c .before) .1, found .site-on .kept .1 .1 .1 .1 .1 .1 .1 .0, at .loop .inv .path-same, at .before .before .before .before .before .before .before .before .pre .0)
+    let seen = c .before .before .before .before .before in
+    let at = seen .before .before .before in
+    omega (arith, further (c .before) .1, seen .look .kept .1 .1 .1 .1 .1 .1 .1 .1 .0, at .loop .inv .path-same, at .before .before .before .before .before .before .before .before .pre .0)
 
 mul-term-2 : tie.Need-mul-term-2 Inv-loop μ-loop
 mul-term-2 c =
     let low = further (c .before) .0 in
-    let small = c .before .before .before .before .before .before .before .before .before .before .before .before .before .before .before .before .before .before .before .pre .0 in
+    let small = c .before .before .before .before .before .before .before .before .before .before .before .before .before .before .before .before .pre .0 in
     search needs
 
 slice-write-term : tie.Need-slice-write-term Inv-loop μ-loop
-slice-write-term c = omega (arith, further (c .before) .0, holds (c .before .before .before .before .before .before .before .before .before .before .before))
+slice-write-term c = omega (arith, further (c .before) .0, holds (c .before .before .before .before .before .before .before .before))
 
 add-steps : tie.Need-add-steps Inv-loop μ-loop
 add-steps c =
     let few = further (c .before) .2 .within in
-    let small = c .before .before .before .before .before .before .before .before .before .before .before .before .before .before .before .before .before .before .before .pre .1 .1 .1 in
+    let small = c .before .before .before .before .before .before .before .before .before .before .before .before .before .before .before .before .pre .1 .1 .1 in
     search needs
 
 loop-less : tie.Need-loop-less Inv-loop μ-loop
@@ -144,12 +129,9 @@ pass-spec =
     Inv-loop
     μ-loop
     loop-holds
-    slice-reshare-prefix-site-on
-    slice-aggregate-site-on
-    site-on-requires
-    slice-reshare-prefix-change-at
-    slice-aggregate-change-at
-    change-at-requires
+    slice-reshare-prefix-look
+    slice-aggregate-look
+    look-requires
     same-length
     same-length-2
     returns

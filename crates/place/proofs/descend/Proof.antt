@@ -46,8 +46,8 @@ returns c =
     let start = at .before .before .before .before .before .before .before .before .before in
     let a = start .args in
     let find = fittingOf (a .arities .now) (a .standing .now) (a .own .now) (a .standing-index .now) (a .own-index .now) in
-    let value = c .before .stops .ensures (c .if1 .taken) in
-    let quiet = value-quiet (a .arities .now) (a .standing .now) (a .own .now) (a .standing-index .now) (a .own-index .now) (start .pre .1 .1 (value .0)) (a .term .now) (at .loop .at) (value .1) in
+    let value = c .before .stops .ensures .0 (c .if1 .taken) in
+    let quiet = value-quiet (a .arities .now) (a .standing .now) (a .own .now) (a .standing-index .now) (a .own-index .now) (start .pre .1 .1 (value .0)) (a .term .now) (at .loop .at) (value .1 .1) in
     (at .loop .inv .0, subst (λ (p : ℕ). siteAt (a .arities .now) find (a .term .now) p ≡ hereIn find (a .term .now) p) (at .loop .inv .1) (quiet .0 ∙ sym (quiet .1)))
 
 mul-fresh : tie.Need-mul-fresh Inv-loop μ-loop

@@ -1,6 +1,6 @@
 -- `shapes::are_vars` meets its contract.
 use mathlib.Core.Path.{sym, _∙_}
-use Rattle.in_place.proofs.Variables.{first-vars}
+use Rattle.in_place.proofs.Variables.{first-vars, vars-first}
 use borrow.Author.Needs.{needs}
 use Rattle.in_place.proofs.shapes.are_vars.Statement.{statement}
 use Rattle.in_place.proofs.shapes.are_vars.Tie as tie
@@ -33,7 +33,9 @@ same-requires : tie.Need-same-requires
 same-requires c κs = search needs
 
 returns : tie.Need-returns
-returns c e = first-vars _ _ _ (c .before .before .before .before .before .pre .0) (sym (c .same .ensures) ∙ e)
+returns c =
+    let few = c .before .before .before .before .before .pre .0 in
+    (λ e. first-vars _ _ _ few (sym (c .same .ensures) ∙ e), λ h. c .same .ensures ∙ vars-first _ _ _ few h)
 
 pub are-vars-spec : {M : Type 1} → statement M
 are-vars-spec =

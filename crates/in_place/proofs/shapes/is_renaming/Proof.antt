@@ -12,7 +12,7 @@ add-if1 : tie.Need-add-if1
 add-if1 c = search needs
 
 returns : tie.Need-returns
-returns c e = absurd (false≢true e)
+returns c = (λ e. absurd (false≢true e), λ h. absurd (c .if1 .taken (h .long)))
 
 add-if2 : tie.Need-add-if2
 add-if2 c = search needs
@@ -24,7 +24,7 @@ shared-slice-read-if2 : tie.Need-shared-slice-read-if2
 shared-slice-read-if2 c = search needs
 
 returns-2 : tie.Need-returns-2
-returns-2 c e = absurd (false≢true e)
+returns-2 c = (λ e. absurd (false≢true e), λ h. absurd (omega (arith, c .if2 .taken, h .high)))
 
 add-are-vars : tie.Need-add-are-vars
 add-are-vars c = search needs
@@ -33,12 +33,14 @@ are-vars-requires : tie.Need-are-vars-requires
 are-vars-requires c κs = search needs
 
 returns-3 : tie.Need-returns-3
-returns-3 c e =
-    record {
-      long = c .before .before .before .if1 .left;
-      high = omega (arith, c .before .if2 .left);
-      all = c .are-vars .ensures e;
-    }
+returns-3 c = (
+  λ e. record {
+    long = c .before .before .before .if1 .left;
+    high = omega (arith, c .before .if2 .left);
+    all = c .are-vars .ensures .0 e;
+  },
+  λ h. c .are-vars .ensures .1 (h .all),
+)
 
 pub is-renaming-spec : {M : Type 1} → statement M
 is-renaming-spec =

@@ -13,7 +13,7 @@ add-if1 : tie.Need-add-if1
 add-if1 c = search needs
 
 returns : tie.Need-returns
-returns c e = absurd (false≢true e)
+returns c = (λ e. absurd (false≢true e), λ h. absurd (c .if1 .taken (h .long)))
 
 add-if2 : tie.Need-add-if2
 add-if2 c = search needs
@@ -25,7 +25,7 @@ shared-slice-read-if2 : tie.Need-shared-slice-read-if2
 shared-slice-read-if2 c = search needs
 
 returns-2 : tie.Need-returns-2
-returns-2 c e = absurd (false≢true e)
+returns-2 c = (λ e. absurd (false≢true e), λ h. absurd (c .if2 .taken (h .guard)))
 
 add-if3 : tie.Need-add-if3
 add-if3 c = search needs
@@ -37,7 +37,7 @@ shared-slice-read-if3 : tie.Need-shared-slice-read-if3
 shared-slice-read-if3 c = search needs
 
 returns-3 : tie.Need-returns-3
-returns-3 c e = absurd (false≢true e)
+returns-3 c = (λ e. absurd (false≢true e), λ h. absurd (c .if3 .taken (h .test)))
 
 add-x : tie.Need-add-x
 add-x c = search needs
@@ -49,13 +49,13 @@ shared-slice-read-x : tie.Need-shared-slice-read-x
 shared-slice-read-x c = search needs
 
 returns-4 : tie.Need-returns-4
-returns-4 c e = absurd (false≢true e)
+returns-4 c = (λ e. absurd (false≢true e), λ h. absurd (omega (arith, c .if4 .taken, h .variable)))
 
 size-of-word-requires : tie.Need-size-of-word-requires
 size-of-word-requires c κs = search needs
 
 returns-5 : tie.Need-returns-5
-returns-5 c e = absurd (false≢true e)
+returns-5 c = (λ e. absurd (false≢true e), λ h. absurd (omega (arith, c .before .size-of-word .ensures .0, c .if5 .taken, h .bound)))
 
 add-b : tie.Need-add-b
 add-b c = search needs
@@ -67,13 +67,13 @@ shared-slice-read-b : tie.Need-shared-slice-read-b
 shared-slice-read-b c = search needs
 
 returns-6 : tie.Need-returns-6
-returns-6 c e = absurd (false≢true e)
+returns-6 c = (λ e. absurd (false≢true e), λ h. absurd (omega (arith, c .if6 .taken, h .high)))
 
 parts-requires : tie.Need-parts-requires
 parts-requires c κs = search needs
 
 returns-7 : tie.Need-returns-7
-returns-7 c e = absurd (false≢true e)
+returns-7 c = (λ e. absurd (false≢true e), λ h. absurd (c .if7 .taken (c .before .parts .ensures .0 ∙ h .parts)))
 
 add-are-vars : tie.Need-add-are-vars
 add-are-vars c = search needs
@@ -82,22 +82,24 @@ are-vars-requires : tie.Need-are-vars-requires
 are-vars-requires c κs = search needs
 
 returns-8 : tie.Need-returns-8
-returns-8 c e =
+returns-8 c =
     let high = c .before .before .before in
     let bound = high .before .before in
     let variable = bound .before .before in
     let test = variable .before .before in
-    let guard = test .before .before in
-    record {
-      long = guard .before .before .if1 .left;
-      guard = guard .if2 .left;
-      test = test .if3 .left;
-      variable = omega (arith, variable .if4 .left);
-      bound = omega (arith, bound .before .size-of-word .ensures .0, bound .if5 .left);
-      high = omega (arith, high .if6 .left);
-      parts = sym (c .before .before .parts .ensures .0) ∙ c .before .if7 .left;
-      all = c .are-vars .ensures e;
-    }
+    let guard = test .before .before in (
+      λ e. record {
+        long = guard .before .before .if1 .left;
+        guard = guard .if2 .left;
+        test = test .if3 .left;
+        variable = omega (arith, variable .if4 .left);
+        bound = omega (arith, bound .before .size-of-word .ensures .0, bound .if5 .left);
+        high = omega (arith, high .if6 .left);
+        parts = sym (c .before .before .parts .ensures .0) ∙ c .before .if7 .left;
+        all = c .are-vars .ensures .0 e;
+      },
+      λ h. c .are-vars .ensures .1 (h .all),
+    )
 
 pub is-test-spec : {M : Type 1} → statement M
 is-test-spec =
