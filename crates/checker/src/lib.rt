@@ -1,5 +1,5 @@
 // The checker: which strings of bytes are rule programs and questions, and by which number and at which place the others are refused.
-mod builtins;
+pub mod builtins;
 mod declarations;
 mod node;
 mod overlap;

@@ -1,6 +1,7 @@
 // Document 01's sums, the figures of document 004 and the endless program, evaluated: a line each, with the fields of document 01.
 mod programs;
 
+use checker::builtins::start_arities;
 use crate::programs::ENDLESS;
 use crate::programs::FIGURE2;
 use crate::programs::FIGURE5;
@@ -62,7 +63,8 @@ fn answer(name: &[u8], ws: &[u16], own: &[u16], levels: usize, steps: u32)
     let standing = standing_list();
     let standing_index = index_of(&standing[..]);
     let own_index = index_of(own);
-    let arities: [u8; 17] = [2, 2, 1, 2, 2, 2, 0, 0, 0, 0, 0, 0, 0, 0, 0, 0, 1];
+    let mut arities = start_arities();
+    arities[16] = 1;
     io::write_all(1, name);
     io::write_all(1, b" | ");
     show(evaluate(

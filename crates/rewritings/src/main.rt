@@ -1,6 +1,7 @@
 // Prints the rewriter's term after every number of steps, and how the run ends, for some programs and questions: traces that two
 // other implementations agree on. Each run is made twice, with steps in place and with every step into the other buffer; where the two
 // differ, in the ending, the count or a word of either buffer, it says so.
+use checker::builtins::start_arities;
 use libc::STDOUT_FILENO;
 use rewriter::Answer;
 use rewriter::ending::Base;
@@ -195,7 +196,8 @@ fn trace<'a>(
 
 // Figure 2's program and figure 4's terms, with fire(A) where figure 4's ninth arrow leaves raise(A).
 fn figure_two(standing: &[u16], standing_index: &[usize]) {
-    let arities = [2u8, 2, 1, 2, 2, 2, 0, 0, 0, 0, 0, 0, 0, 0, 0, 0, 1];
+    let mut arities = start_arities();
+    arities[16] = 1;
     let own = [
         2u16, 2, 11, 32, 6, 32, 2, 2, 11, 33, 6, 33, 4, 6, 12, 64, 32, 65, 8, 9, 64, 64, 32, 65, 4, 6, 12, 64, 33, 65, 8, 9, 64,
         64, 33, 65, 6, 1, 8, 6, 32, 64, 32, 65, 65, 6, 1, 8, 6, 33, 64, 33, 65, 65, 6, 2, 8, 6, 32, 64, 33, 65, 6, 32, 6, 2, 8, 6,
@@ -208,7 +210,8 @@ fn figure_two(standing: &[u16], standing_index: &[usize]) {
 
 // A handler for another exception: select of unequal exceptions.
 fn unequal(standing: &[u16], standing_index: &[usize]) {
-    let arities = [2u8, 2, 1, 2, 2, 2, 0, 0, 0, 0, 0, 0, 0, 0, 0, 0, 2];
+    let mut arities = start_arities();
+    arities[16] = 2;
     let own = [
         2u16, 2, 11, 32, 6, 32, 2, 2, 11, 33, 6, 33, 2, 2, 11, 34, 6, 34, 4, 6, 12, 64, 32, 65, 8, 9, 64, 64, 32, 65, 4, 6, 12,
         64, 33, 65, 8, 9, 64, 64, 33, 65, 4, 6, 12, 64, 34, 65, 8, 9, 64, 64, 34, 65, 6, 1, 8, 6, 32, 64, 32, 65, 65, 6, 1, 8, 6,
@@ -224,7 +227,9 @@ fn unequal(standing: &[u16], standing_index: &[usize]) {
 
 // Calls of `if` and of built-ins.
 fn choices(standing: &[u16], standing_index: &[usize]) {
-    let arities = [2u8, 2, 1, 2, 2, 2, 0, 0, 0, 0, 0, 0, 0, 0, 0, 0, 0, 1, 1];
+    let mut arities = start_arities();
+    arities[17] = 1;
+    arities[18] = 1;
     let own = [
         2u16, 2, 11, 32, 6, 32, 2, 2, 11, 33, 6, 33, 4, 6, 12, 64, 32, 65, 8, 9, 64, 64, 32, 65, 4, 6, 12, 64, 33, 65, 8, 9, 64,
         64, 33, 65, 6, 1, 8, 6, 32, 64, 32, 65, 65, 6, 1, 8, 6, 33, 64, 33, 65, 65, 6, 2, 8, 6, 32, 64, 33, 65, 6, 32, 6, 2, 8, 6,
@@ -237,7 +242,8 @@ fn choices(standing: &[u16], standing_index: &[usize]) {
 
 // Figure 6's program, which grows: within 12 words the eleventh step is too big.
 fn too_big(standing: &[u16], standing_index: &[usize]) {
-    let arities = [2u8, 2, 1, 2, 2, 2, 0, 0, 0, 0, 0, 0, 0, 0, 0, 0, 1];
+    let mut arities = start_arities();
+    arities[16] = 1;
     let own = [
         2u16, 2, 11, 32, 6, 32, 2, 2, 11, 33, 6, 33, 4, 6, 12, 64, 32, 65, 8, 9, 64, 64, 32, 65, 4, 6, 12, 64, 33, 65, 8, 9, 64,
         64, 33, 65, 6, 1, 8, 6, 32, 64, 32, 65, 65, 6, 1, 8, 6, 33, 64, 33, 65, 65, 6, 2, 8, 6, 32, 64, 33, 65, 6, 32, 6, 2, 8, 6,
