@@ -153,6 +153,7 @@ pub fn read_side(
         if r.len == 0 {
             return refused_side(2, at);
         }
+        let next = at + r.len;
         let s = step_over(stand, seen, r.kind, r.body, exceptions, arities);
         if s.refusal != 0 {
             return refused_side(s.refusal, at);
@@ -162,7 +163,7 @@ pub fn read_side(
         }
         due = due - 1 + s.parts;
         count += s.words;
-        at += r.len;
+        at = next;
         seen = s.seen;
     }
     Side {

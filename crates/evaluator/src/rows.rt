@@ -62,7 +62,7 @@ pub fn after_succ(end: Ending, p: u32) -> Turn
             }),
             left: p,
         }),
-        Ending::Raised(x) => Turn::Ends(pay(1, p, Ending::Raised(x))),
+        Ending::Raised(e) => Turn::Ends(pay(1, p, Ending::Raised(e))),
         Ending::Stuck(s) => Turn::Ends(Answer {
             end: Ending::Stuck(s + 1),
             left: p,

@@ -33,6 +33,9 @@ returns c =
     c .refused-side .ensures
     ∙ sym (l .before .loop .inv .0 ∙ scan-ends _ _ _ _ _ _ _ _ (l .loop-test .taken) _ (i .before .before .record-at .ensures) (i .if1 .taken))
 
+add-next : tie.Need-add-next Inv-loop μ-loop
+add-next c = omega (arith, record-fits _ _ _ (c .before .before .before .record-at .ensures))
+
 step-over-requires : tie.Need-step-over-requires Inv-loop μ-loop
 step-over-requires c κs = search needs
 
@@ -43,7 +46,7 @@ returns-2 : tie.Need-returns-2 Inv-loop μ-loop
 returns-2 c =
     let o = c .before in
     let t = o .before .before in
-    let i = t .before in
+    let i = t .before .before in
     let r = i .before .before in
     let l = r .before in
     c .refused-side2 .ensures
@@ -66,7 +69,7 @@ returns-3 c =
     let f = c .before in
     let o = f .before .before .before in
     let t = o .before .before in
-    let i = t .before in
+    let i = t .before .before in
     let r = i .before .before in
     let l = r .before in
     c .refused-side3 .ensures
@@ -82,11 +85,6 @@ add-due c = search needs
 add-count : tie.Need-add-count Inv-loop μ-loop
 add-count c = search needs
 
-add-at : tie.Need-add-at Inv-loop μ-loop
-add-at c =
-    let i = c .before .before .before .before .before .before .before .before .before in
-    omega (arith, record-fits _ _ _ (i .before .before .record-at .ensures))
-
 loop-less : tie.Need-loop-less Inv-loop μ-loop
 loop-less c =
     let i = c .before .before .before .before .before .before .before .before .before .before in
@@ -94,10 +92,10 @@ loop-less c =
 
 loop-again : tie.Need-loop-again Inv-loop μ-loop
 loop-again c =
-    let f = c .before .before .before .before in
+    let f = c .before .before .before in
     let o = f .before .before .before in
     let t = o .before .before in
-    let i = t .before in
+    let i = t .before .before in
     let r = i .before .before in
     let l = r .before in
     let u = rw (f .before .before .most .ensures) at (f .if3 .left) in (
@@ -113,4 +111,4 @@ returns-4 c =
     sym (rw z at (c .before .loop .inv .0) ∙ scan-none _ _ _ _ _ _ _)
 
 pub read-side-spec : {M : Type 1} → statement M
-read-side-spec = tie.close (tie.spec Inv-loop μ-loop loop-holds record-at-requires refused-side-requires returns step-over-requires refused-side-requires-2 returns-2 most-requires add-if3 refused-side-requires-3 returns-3 sub-due add-due add-count add-at loop-less loop-again returns-4)
+read-side-spec = tie.close (tie.spec Inv-loop μ-loop loop-holds record-at-requires refused-side-requires returns add-next step-over-requires refused-side-requires-2 returns-2 most-requires add-if3 refused-side-requires-3 returns-3 sub-due add-due add-count loop-less loop-again returns-4)
