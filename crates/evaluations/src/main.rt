@@ -1,7 +1,6 @@
 // Document 01's sums, the figures of document 004 and the endless program, evaluated: a line each, with the fields of document 01.
 mod programs;
 
-use checker::builtins::start_arities;
 use crate::programs::ENDLESS;
 use crate::programs::FIGURE2;
 use crate::programs::FIGURE5;
@@ -9,6 +8,7 @@ use crate::programs::FIGURE6;
 use crate::programs::FIGURE7;
 use crate::programs::FIGURE8;
 use crate::programs::SUMS;
+use checker::builtins::start_arities;
 use evaluator::evaluate;
 use evaluator::values::Ending;
 use evaluator::values::Outcome;

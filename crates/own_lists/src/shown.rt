@@ -1,6 +1,6 @@
 // Lists and answers on standard output.
-use numbers::size_of_word;
 use super::lists::Answer;
+use numbers::size_of_word;
 ghost use mathlib.Core.Path.{_≡_};
 ghost use Prim.Native.Nat.{_<_};
 ghost use lib.Dec.{eqb};

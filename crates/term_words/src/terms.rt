@@ -1,7 +1,7 @@
 // Terms one after the other: their words written, and counted.
-use numbers::size_of_byte;
 use super::roots::root_at;
 use generated::writing::put_words;
+use numbers::size_of_byte;
 ghost use mathlib.Core.Path.{_≡_};
 ghost use Prim.Native.Nat.{_<_, _≤_};
 ghost use lib.Dec.{eqb};

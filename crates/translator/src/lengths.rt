@@ -1,8 +1,8 @@
 // How many words a program's rules are, before they are written.
-use numbers::size_of_word;
-use numbers::word_of_byte;
 use super::rules::arity_of;
 use super::rules::rule_sizes;
+use numbers::size_of_word;
+use numbers::word_of_byte;
 ghost use mathlib.Core.Path.{_≡_};
 ghost use Prim.Native.Nat.{_+_, _*_, _≤_};
 ghost use lib.ListN.{length, getD};
