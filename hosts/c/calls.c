@@ -117,7 +117,7 @@ static void largest_own_list(void) {
 
 /* A call runs on a stack of its own, painted before; the lowest place that lost its paint says how much was used. The header says that
  * ENOUGH is enough. */
-enum { PAINTED = 16 << 20, ENOUGH = 4 << 20, PAINT = 0xA5 };
+enum { PAINTED = 16 << 20, ENOUGH = 8 << 20, PAINT = 0xA5 };
 
 static size_t question_length;
 
