@@ -7,7 +7,7 @@ use native.Mathlib.Omega.{arith}
 use lib.Dec.{leb}
 use lib.ListN.{length}
 use borrow.Author.Tests.{leb-true, le-leb, lt-leb}
-use Rattle.theory.specs.Syntax.{choose}
+use Rattle.theory.specs.Syntax.{pick, choose}
 use Rattle.theory.specs.Cost.{evaluator}
 use Rattle.theory.specs.Buffers.{over}
 use Rattle.theory.specs.Bytes.{programOf}
@@ -15,7 +15,7 @@ use Rattle.theory.specs.Answers.{theProgram, refusal, answer, Verdict, refuses,
 use Rattle.checker.specs.declared.Checked.{Checked}
 use Rattle.bridge.specs.declared.report.Report.{Report}
 use Rattle.bridge.specs.Report.{refusalReport, answerReport, reportOf, verdictReport}
-use Rattle.bridge.specs.Judged.{allowances}
+use Rattle.bridge.specs.Judged.{allowances, buffersHold, limitOf}
 use Rattle.bridge.specs.Accepted.{Accepts, ownWords, Runs}
 use Rattle.bridge.specs.Calls.{Leaves}
 use Rattle.bridge.proofs.Judging.{both-judged}
@@ -49,6 +49,40 @@ pub by-most : (steps other most : ℕ) → steps ≤ 1000000 → 1 ≤ other →
 unfolding allowances
 by-most steps other most h k =
     sym (ap (λ (b : Bool). b && (leb 1 other && leb other most)) (le-leb steps 1000000 h) ∙ ap (λ (b : Bool). b && leb other most) (le-leb 1 other k))
+
+-- where neither refusal 12 nor 13 is due
+pub within-limits : (steps room first second : ℕ) → limitOf steps room first second ≡ 0 → (steps ≤ 1000000) × (1 ≤ room) × (room ≤ 4096) × (room ≤ first) × (room ≤ second)
+unfolding limitOf buffersHold
+within-limits steps room first second e = go (allowances steps room 4096) refl (buffersHold room first second) refl e
+  where
+    go : (x : Bool) → allowances steps room 4096 ≡ x → (y : Bool) → buffersHold room first second ≡ y → _≡_ {A = ℕ} (pick x (pick y 0 13) 12) 0
+        → (steps ≤ 1000000) × (1 ≤ room) × (room ≤ 4096) × (room ≤ first) × (room ≤ second)
+    go true ex true ey z =
+        let w = within-allowances steps room 4096 ex in
+        let b = and-true (leb room first) (leb room second) ey in
+        (w .0, w .1, w .2, leb-true room first (b .0), leb-true room second (b .1))
+    go true ex false ey z = absurd (omega (arith, z))
+    go false ex y ey z = absurd (omega (arith, z))
+
+pub barred : (steps room first second : ℕ) → allowances steps room 4096 ≡ false → 12 ≡ limitOf steps room first second
+unfolding limitOf
+barred steps room first second e = sym (ap (λ (b : Bool). pick b (pick (buffersHold room first second) 0 13) 12) e)
+
+pub short : (steps room first second : ℕ) → allowances steps room 4096 ≡ true → buffersHold room first second ≡ false → 13 ≡ limitOf steps room first second
+unfolding limitOf
+short steps room first second e k = sym (ap₂ (λ (b d : Bool). pick b (pick d 0 13) 12) e k)
+
+pub unlimited : (steps room first second : ℕ) → allowances steps room 4096 ≡ true → buffersHold room first second ≡ true → 0 ≡ limitOf steps room first second
+unfolding limitOf
+unlimited steps room first second e k = sym (ap₂ (λ (b d : Bool). pick b (pick d 0 13) 12) e k)
+
+pub first-short : (room first second : ℕ) → first < room → false ≡ buffersHold room first second
+unfolding buffersHold
+first-short room first second h = sym (ap (λ (b : Bool). b && leb room second) (lt-leb room first h))
+
+pub by-second : (room first second : ℕ) → room ≤ first → leb room second ≡ buffersHold room first second
+unfolding buffersHold
+by-second room first second h = sym (ap (λ (b : Bool). b && leb room second) (le-leb room first h))
 
 -- REFUSALS 1 TO 11
 module _ (p q : List ℕ) (r : Report) (e : r ≡ verdictReport (judged p q)) (h : r .number ≡ 0 → ⊥) where
@@ -144,12 +178,21 @@ module _ {p q : List ℕ} {c : Checked} (a : Accepts p q c) where
     held-allowed : Held → allowances steps room 4096 ≡ true
     held-allowed h = sym (by-most steps room 4096 (h .0) (h .1)) ∙ le-leb room 4096 (h .2)
 
-    pub rewrite-first-short : (r : Report) → allowances steps room 4096 ≡ true → length first < room → r ≡ refusalReport 13 1 0 → Leaves (rewrite p q steps room own first second) r own first second
-    rewrite-first-short r h k e = rewrite-short r h (longEnough-is _ false _ refl (lt-leb room (length first) k) refl ∙ never (leb (length (ownWords (a .checks .book))) (length own))) e
+    -- refusals 12 and 13 by their number: the own list is not asked for where a buffer is too short
+    pub rewrite-limited : (r : Report) (n : ℕ) → n ≡ limitOf steps room (length first) (length second) → (n ≡ 0 → ⊥) → r ≡ refusalReport n 1 0
+        → Leaves (rewrite p q steps room own first second) r own first second
+    unfolding limitOf buffersHold
+    rewrite-limited r n w h e = go (allowances steps room 4096) refl (buffersHold room (length first) (length second)) refl
+      where
+        told : (m : ℕ) → n ≡ m → r ≡ refusalReport m 1 0
+        told m k = e ∙ ap (λ (x : ℕ). refusalReport x 1 0) k
 
-    pub rewrite-second-short : (r : Report) → allowances steps room 4096 ≡ true → length second < room → r ≡ refusalReport 13 1 0 → Leaves (rewrite p q steps room own first second) r own first second
-    rewrite-second-short r h k e =
-        rewrite-short r h (longEnough-is _ _ false refl refl (lt-leb room (length second) k) ∙ ap (λ (b : Bool). leb (length (ownWords (a .checks .book))) (length own) && b) (never (leb room (length first))) ∙ never (leb (length (ownWords (a .checks .book))) (length own))) e
+        go : (x : Bool) → allowances steps room 4096 ≡ x → (y : Bool) → buffersHold room (length first) (length second) ≡ y → Leaves (rewrite p q steps room own first second) r own first second
+        go false ex y ey = rewrite-barred r ex (told 12 (w ∙ ap (λ (b : Bool). pick b (pick (buffersHold room (length first) (length second)) 0 13) 12) ex))
+        go true ex false ey =
+            rewrite-short r ex (longEnough-is _ _ _ refl refl refl ∙ ap (λ (b : Bool). leb (length (ownWords (a .checks .book))) (length own) && b) ey ∙ never (leb (length (ownWords (a .checks .book))) (length own)))
+            (told 13 (w ∙ ap₂ (λ (b d : Bool). pick b (pick d 0 13) 12) ex ey))
+        go true ex true ey = absurd (h (w ∙ ap₂ (λ (b d : Bool). pick b (pick d 0 13) 12) ex ey))
 
     pub rewrite-own-short : (r : Report) (own′ : List ℕ) → Held → length own < length (ownWords (a .checks .book)) → own′ ≡ own → r ≡ refusalReport 13 1 0
         → Leaves (rewrite p q steps room own first second) r own′ first second

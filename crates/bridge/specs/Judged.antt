@@ -21,3 +21,11 @@ judgedAs p q = record { refusal = verdictReport (judged p q); checked = checkedO
 -- refusal 12 is kept off: the steps are within 1,000,000, and the other allowance is from 1 to its most
 unfoldable pub allowances : ℕ → ℕ → ℕ → Bool
 allowances steps other most = leb steps 1000000 && (leb 1 other && leb other most)
+
+-- both buffers, of so many words, have the room's
+unfoldable pub buffersHold : ℕ → ℕ → ℕ → Bool
+buffersHold room first second = leb room first && leb room second
+
+-- refusals 12 and 13 of the rewriter's call but for the own list: "12 an allowance out of range; 13 a lent slice shorter"; 0 where neither is due
+unfoldable pub limitOf : ℕ → ℕ → ℕ → ℕ → ℕ
+limitOf steps room first second = pick (allowances steps room 4096) (pick (buffersHold room first second) 0 13) 12

@@ -1,12 +1,13 @@
-// Refusals 1 to 12: the program's, then the question's, then the allowances'.
+// Refusals 1 to 13 but for the own list's: the program's, then the question's, then the allowances' and the buffers'.
 use crate::report::Report;
 use crate::report::refused;
 use checker::Checked;
+use numbers::size_of_u32;
 use numbers::u32_of_byte;
 use numbers::u32_of_size;
 ghost use mathlib.Core.Path.{_≡_};
 ghost use Prim.Native.Nat.{_<_};
-ghost use Rattle.bridge.specs.Judged.{refusedBy, judgedAs, allowances};
+ghost use Rattle.bridge.specs.Judged.{refusedBy, judgedAs, allowances, buffersHold, limitOf};
 
 // A refusal by its number; about nothing where that is 0.
 fn refusal_by(number: u8, about: u32, place: usize) -> Report
@@ -52,4 +53,30 @@ pub fn allowed(steps: u32, other: u32, most: u32) -> bool
         return false;
     }
     other <= most
+}
+
+// Whether both buffers, of so many words, have at least the room's.
+fn buffers_hold(room: u32, first: usize, second: usize) -> bool
+    ensures { λ r. ⌜ r ≡ buffersHold room first second ⌝ }
+{
+    let most = size_of_u32(room);
+    if first < most {
+        return false;
+    }
+    most <= second
+}
+
+// 12 where an allowance of the rewriter's call is out of range, then 13 where a buffer is too short; 0 where neither is due.
+pub fn limit(steps: u32, room: u32, first: usize, second: usize) -> u32
+    ensures { λ r. ⌜ r ≡ limitOf steps room first second ⌝ }
+{
+    let ranged = allowed(steps, room, 4096);
+    let held = buffers_hold(room, first, second);
+    if !ranged {
+        return 12;
+    }
+    if !held {
+        return 13;
+    }
+    0
 }

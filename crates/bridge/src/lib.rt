@@ -10,10 +10,10 @@ use checker::Checked;
 use evaluating::run_evaluator;
 use judge::allowed;
 use judge::judge;
+use judge::limit;
 use lend::Written;
 use lend::own_words;
 use lend::question_words;
-use numbers::size_of_u32;
 use report::Report;
 use report::refused;
 use rewriting::run_rewriter;
@@ -183,15 +183,9 @@ pub fn rewrite(
     if refusal.number != 0 {
         return refusal;
     }
-    if !allowed(steps, room, 4096) {
-        return refused(12, 1, 0);
-    }
-    let most = size_of_u32(room);
-    if first.len() < most {
-        return refused(13, 1, 0);
-    }
-    if second.len() < most {
-        return refused(13, 1, 0);
+    let number = limit(steps, room, first.len(), second.len());
+    if number != 0 {
+        return refused(number, 1, 0);
     }
     let checked = judged.checked;
     rewrite_lent(program, question, checked, steps, room, own, first, second)

@@ -75,19 +75,19 @@ pub fn declare_exception(top: Top, body: u8, next: usize) -> Top
 pub fn declare_function(top: Top, body: u8, arity: u8, next: usize) -> Top
     ensures { λ r. ⌜ r ≡ functionTurn top body arity next ⌝ }
 {
-    let place = top.place;
+    let here = top.place;
     if 1 < top.stage {
-        return refused_top(3, place);
+        return refused_top(3, here);
     }
     if 32 <= top.functions {
-        return refused_top(9, place);
+        return refused_top(9, here);
     }
     let b = body as usize;
     if b != top.functions {
-        return refused_top(4, place);
+        return refused_top(4, here);
     }
     if 4 < arity {
-        return refused_top(4, place);
+        return refused_top(4, here);
     }
     let mut t = top;
     t.place = next;
