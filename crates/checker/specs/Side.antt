@@ -19,9 +19,9 @@ use Rattle.checker.specs.Node.{tokAt}
 abbrev pub SmallStep : Step → Type 0
 SmallStep r = (r .parts ≤ 255 * r .words) × (r .words < 3)
 
--- a record that is refused by the number n
+-- a record that is refused by the number n; it has its word, but 8 is tested only where it is let in
 abbrev pub stopped : ℕ → List Bool → Step
-stopped n s = record { refusal = n; parts = 0; words = 0; seen = s }
+stopped n s = record { refusal = n; parts = 0; words = 1; seen = s }
 
 -- a record that is let in, with p parts and w words
 abbrev pub passed : ℕ → ℕ → List Bool → Step

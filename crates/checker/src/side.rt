@@ -22,14 +22,14 @@ pub struct Step {
     pub seen: [bool; 8],
 }
 
-// A record that is refused.
+// A record that is refused; it has its word like others.
 fn stop(refusal: u8, seen: [bool; 8]) -> Step
     ensures { λ r. ⌜ r ≡ stopped refusal seen ⌝ }
 {
     Step {
         refusal,
         parts: 0,
-        words: 0,
+        words: 1,
         seen,
     }
 }
@@ -155,10 +155,12 @@ pub fn read_side(
         }
         let next = at + r.len;
         let s = step_over(stand, seen, r.kind, r.body, exceptions, arities);
-        if s.refusal != 0 {
-            return refused_side(s.refusal, at);
+        let refusal = s.refusal;
+        let over = most(stand) < count + s.words;
+        if refusal != 0 {
+            return refused_side(refusal, at);
         }
-        if most(stand) < count + s.words {
+        if over {
             return refused_side(8, at);
         }
         due = due - 1 + s.parts;
