@@ -11,6 +11,7 @@ use Rattle.words.proofs.Writes.{put-append, put-none, length-put}
 use Rattle.theory.specs.Tree.{Rule}
 use Rattle.theory.specs.Words.{storedRules, storedRule}
 use Rattle.theory.specs.Translation.{gather, numbers}
+use Rattle.theory.proofs.Readability.{list-append}
 use Rattle.generated.specs.Wrote.{Room, Wrote}
 
 -- nothing is written
@@ -35,11 +36,6 @@ wrote-as {s} {t} {at} {n} {d} {d′} e w = rw e at w
 -- there is room for what comes behind
 pub room-then : (s t : List ℕ) (at m : ℕ) (d d₁ : List ℕ) → Wrote s at d d₁ m → Room (s ++ t) at d → Room t m d₁
 room-then s t at m d d₁ w h = omega (arith, w .place, wrote-length w, length-append s t)
-
--- words of two lists of rules
-pub list-append : (rs qs : List Rule) → storedRules (rs ++ qs) ≡ storedRules rs ++ storedRules qs
-list-append [] qs = refl
-list-append (r ∷ rs) qs = ap (storedRule r ++_) (list-append rs qs) ∙ sym (append-assoc (storedRule r) (storedRules rs) (storedRules qs))
 
 -- the words of the rules that f gives for the numbers below n
 abbrev pub below : (ℕ → List Rule) → ℕ → List ℕ

@@ -4,7 +4,7 @@ use mathlib.Core.Option.{none}
 use mathlib.Core.List.{List, _++_}
 use Prim.Native.Nat.{ℕ}
 use Rattle.theory.specs.Syntax.{Term, Program}
-use Rattle.theory.specs.WellFormed.{WellFormed, Narrow, partsOf}
+use Rattle.theory.specs.WellFormed.{WellFormed, Narrow}
 use Rattle.theory.specs.Tree.{Tree, var, firstFit}
 use Rattle.theory.specs.Words.{words, Shaped}
 use Rattle.theory.specs.Translation.{tree, standing, ownList, rules}

@@ -11,6 +11,7 @@ use lib.ListN.{length, take, drop}
 use Rattle.theory.specs.Syntax.{pick}
 use Rattle.theory.proofs.Tests.{le-of-leb}
 use Rattle.theory.specs.Buffers.{over, padded}
+use Rattle.theory.proofs.CountedSteps.{over-begins}
 use Rattle.turns.specs.Run.{Last, stop, go, run, runFrom, ranOf}
 use Rattle.turns.specs.declared.run.Ran.{Ran}
 use Rattle.turns.specs.declared.run.Ending.the-variants.{Big}
@@ -45,14 +46,9 @@ module _ (next : List ℕ → Option (List ℕ)) (room : ℕ) where
       both true e = run-fits allowance 0 t (le-of-leb (length t) room e)
       both false e = omega arith
 
-pub front : (t z f : List ℕ) → length t ≤ length f → take (length t) (over (t ++ z) f) ≡ t
-front [] z f h = refl
-front (w ∷ t) z [] h = absurd (not-suc-le-zero h)
-front (w ∷ t) z (x ∷ f) h = ap (w ∷_) (front t z f (le-of-suc-le-suc h))
-
 -- the answer that the code puts together
 pub settled : (l : Last) (room : ℕ) (r : Ran) (f f′ : List ℕ) (s : Said) → r ≡ ranOf l → length (l .term) ≤ room → room ≤ length f → f′ ≡ over (padded room (l .term)) f
     → s ≡ saidW (r .ending) (take (r .len - 0) (drop 0 f′)) → _≡_ {A = Answer} (record { said = s; steps = r .steps }) (answerW l)
 settled l room r f f′ s er h k ef es =
-    let p : take (r .len - 0) (drop 0 f′) ≡ l .term = ap (λ (n : ℕ). take n f′) (sub-zero (r .len)) ∙ ap₂ (λ (x : Ran) (g : List ℕ). take (x .len) g) er ef ∙ front (l .term) _ f (omega arith) in
+    let p : take (r .len - 0) (drop 0 f′) ≡ l .term = ap (λ (n : ℕ). take n f′) (sub-zero (r .len)) ∙ ap₂ (λ (x : Ran) (g : List ℕ). take (x .len) g) er ef ∙ over-begins (l .term) _ f (omega arith) in
     ap₂ (λ (s : Said) (n : ℕ). record { said = s; steps = n }) (es ∙ ap₂ (λ (x : Ran) (t : List ℕ). saidW (x .ending) t) er p) (ap (λ (x : Ran). x .steps) er)

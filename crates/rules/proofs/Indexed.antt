@@ -13,6 +13,7 @@ use Rattle.theory.specs.Syntax.{pick}
 use Rattle.theory.specs.Tree.{Tree, var, node, Rule}
 use Rattle.theory.specs.Words.{words, allWords, isVar, storedRule, storedRules}
 use Rattle.theory.proofs.Shape.{headSym}
+use Rattle.theory.proofs.Readability.{list-append}
 use Rattle.words.specs.declared.terms.Reach.{Reach}
 use Rattle.rules.specs.Matching.{reached, fits}
 use Rattle.rules.specs.Index.{slotOf, indexOf, spanOf, partIn}
@@ -20,7 +21,7 @@ use Rattle.rules.specs.Finding.{choose, firstFrom, firstFit, moved, firs
 use Rattle.rules.specs.declared.finding.Place.{Place}
 use Rattle.rules.specs.declared.finding.Place.the-variants.{Nowhere, Stored}
 use Rattle.rules.proofs.Takes.{takes-other}
-use Rattle.rules.proofs.Stored.{rootOf, Rooted, rooted-left, rooted-right, list-append, rule-fits, rule-passed}
+use Rattle.rules.proofs.Stored.{rootOf, Rooted, rooted-left, rooted-right, rule-fits, rule-passed}
 use Rattle.rules.proofs.Scan.{Other, startIn, endIn, ranged, part-between}
 
 pub slot-le : (w : ℕ) → slotOf w ≤ 400

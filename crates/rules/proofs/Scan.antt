@@ -13,9 +13,10 @@ use borrow.Author.Tests.{eqb-true, eqb-false, eq-eqb, ne-eqb}
 use Rattle.theory.specs.Syntax.{pick}
 use Rattle.theory.specs.Tree.{Rule}
 use Rattle.theory.specs.Words.{storedRule, storedRules}
+use Rattle.theory.proofs.Readability.{list-append}
 use Rattle.rules.specs.Index.{slotOf, startOf, noted, indexFrom, indexOf, leastOf, spanOf, partIn}
 use Rattle.rules.proofs.Pass.{least-of}
-use Rattle.rules.proofs.Stored.{rootOf, list-append, list-length, rule-noted}
+use Rattle.rules.proofs.Stored.{rootOf, list-length, rule-noted}
 
 -- the rules noted one after the other
 abbrev pub scan : ℕ → List Rule → List ℕ → List ℕ

@@ -8,8 +8,8 @@ use lib.Dec.{leb}
 use lib.ListN.{length, length-append}
 use Rattle.theory.specs.Syntax.{pick}
 use Rattle.theory.specs.Builtins.{funOf}
-use Rattle.theory.specs.Tree.{Tree, Trees, var, node, [·], _▹_, size, sizes, len}
-use Rattle.theory.specs.Words.{words, allWords, isVar, joinTrees, Shaped, Shapeds, storedRules}
+use Rattle.theory.specs.Tree.{Tree, Trees, var, node, [·], _▹_, Rule, size, sizes, len}
+use Rattle.theory.specs.Words.{words, allWords, isVar, joinTrees, Shaped, Shapeds, storedRule, storedRules}
 use Rattle.theory.specs.Translation.{standing}
 use Rattle.theory.proofs.Tests.{leb-true, le-of-leb}
 
@@ -106,3 +106,8 @@ mutual
 
 pub standing-count : (length (standing (funOf [])) ≡ 45) × (length (storedRules (standing (funOf []))) ≡ 365)
 standing-count = (refl, refl)
+
+-- the stored words of two lists one after the other
+pub list-append : (xs ys : List Rule) → storedRules (xs ++ ys) ≡ storedRules xs ++ storedRules ys
+list-append [] ys = refl
+list-append (r ∷ xs) ys = ap (storedRule r ++_) (list-append xs ys) ∙ sym (append-assoc (storedRule r) (storedRules xs) (storedRules ys))

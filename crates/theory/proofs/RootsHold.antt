@@ -14,7 +14,7 @@ use Rattle.theory.specs.Tree.{Tree, Trees, var, node, [·], _▹_, Subst
 use Rattle.theory.specs.Translation.{baseT, succT, ttT, exnT, fireT, guardT, selectT, isDataT, ifT, raiseT, handleT, aux, valT, tree, patT, patTs, _⇒_, commonRules, numbers, gather, raiseRule, handleRule, sameRule, otherRule, exnRules, variables, argRule, ownRules, funRules, builtins, standing, ownList, rules}
 use Rattle.theory.proofs.Tests.{and-left, and-right, eqb-true, eqb-false, eq-of-eqb, ne-of-eqb}
 use Rattle.theory.proofs.Reach.{onto, past, past-suc, past-len, len-onto}
-use Rattle.theory.proofs.Roots.{valTs, under, placed, RootLaws}
+use Rattle.theory.proofs.Roots.{valTs, placed, RootLaws}
 
 -- options
 orElse-assoc : {A : Type 0} (a b c : Option A) → orElse (orElse a b) c ≡ orElse a (orElse b c)
@@ -31,7 +31,7 @@ orElse-self none false = refl
 orElse-self (some x) b = refl
 
 -- first fit over lists put together
-fit-append : (xs ys : List Rule) (t : Tree) → firstFit (xs ++ ys) t ≡ orElse (firstFit xs t) (firstFit ys t)
+pub fit-append : (xs ys : List Rule) (t : Tree) → firstFit (xs ++ ys) t ≡ orElse (firstFit xs t) (firstFit ys t)
 fit-append [] ys t = refl
 fit-append (r ∷ xs) ys t = ap (orElse (apply r t)) (fit-append xs ys t) ∙ sym (orElse-assoc (apply r t) (firstFit xs t) (firstFit ys t))
 

@@ -14,12 +14,13 @@ use Rattle.theory.specs.Words.{words, allWords, storedRule, storedRules}
 use Rattle.theory.specs.Translation.{aux, tree, trees, patTs, ownRules, _⇒_}
 use Rattle.theory.specs.Bytes.{TermRecord, firstTerms, nthTerm, termsFrom, RuleAt, defsOf}
 use Rattle.theory.proofs.Tests.{eq-of-eqb, eqb-true, eqb-false}
+use Rattle.theory.proofs.Readability.{list-append}
 use Rattle.term_words.specs.Records.{Whole, countOf, from, termsAt, termAt}
 use Rattle.term_words.proofs.Laws.{whole-many}
 use Rattle.term_words.proofs.Count.{count-words}
 use Rattle.generated.specs.Wrote.{Room, Wrote}
 use Rattle.generated.specs.CallRules.{callRules}
-use Rattle.generated.proofs.Writes.{list-append, wrote-none, wrote-as, wrote-then, room-as, room-first, room-then}
+use Rattle.generated.proofs.Writes.{wrote-none, wrote-as, wrote-then, room-as, room-first, room-then}
 use Rattle.translator.specs.Opened.{Opened, OpenedFor, rightAt, ruleAt, ruleIf}
 use Rattle.translator.specs.Listed.{Here, Stand, arityOf, rulesIn, rulesWords}
 use Rattle.translator.specs.List.{rulesFor}

@@ -1,5 +1,4 @@
 -- `checker::declarations::start_top` meets its contract.
-use mathlib.Core.Path.{ap}
 use borrow.Author.Needs.{needs}
 use Rattle.checker.specs.Declarations.{startTop}
 use Rattle.checker.proofs.declarations.start_top.Statement.{statement}

@@ -4,7 +4,7 @@ use native.Mathlib.Omega.{arith}
 use lib.ListN.{length, length-append}
 use Rattle.theory.specs.Words.{storedRules}
 use Rattle.theory.specs.Translation.{exnRules, gather, numbers}
-use Rattle.generated.proofs.Writes.{list-append}
+use Rattle.theory.proofs.Readability.{list-append}
 use Rattle.translator.specs.List.{rulesFor}
 use Rattle.translator.proofs.lengths.list_length.Statement.{statement}
 use Rattle.translator.proofs.lengths.list_length.Tie as tie

@@ -4,7 +4,8 @@ use mathlib.Core.List.{_++_}
 use borrow.Author.Needs.{needs}
 use Rattle.theory.specs.Words.{storedRules}
 use Rattle.theory.specs.Translation.{exnRules, gather, numbers}
-use Rattle.generated.proofs.Writes.{below, wrote-as, wrote-then, room-as, room-first, room-then, list-append}
+use Rattle.theory.proofs.Readability.{list-append}
+use Rattle.generated.proofs.Writes.{below, wrote-as, wrote-then, room-as, room-first, room-then}
 use Rattle.translator.specs.List.{rulesFor, ownIn}
 use Rattle.translator.proofs.rules.put_list.Statement.{statement}
 use Rattle.translator.proofs.rules.put_list.Tie as tie
