@@ -8,7 +8,7 @@ use lib.Dec.{eqb, leb, ltb}
 use lib.ListN.{length}
 use borrow.Author.Tests.{eqb-true, leb-true, lt-ltb, le-ltb}
 use Rattle.theory.specs.Syntax.{Terms, tnil, tcons, many, pick, choose}
-use Rattle.theory.specs.Builtins.{nthFun, builtinFuns}
+use Rattle.theory.specs.Builtins.{builtinFuns, lastCalled, nthFun}
 use Rattle.theory.specs.Bytes.{TermRecord, constantRecord, succRecord, ifRecord, variableRecord, raiseRecord, handleRecord, callRecord, recordParts, recordWords, nthTerm, firstTerms, laterTerms, termFrom, termsFrom, bodyLength, NextRecord, noneLeft, cutShort, nextIs, nextRecord, Result, refused, good, refuse, ifGood, Declared, nthArity, orRefuse4, termRecord, Where, allowed, ceiling, addRecord, readTermRecord, readSide}
 use Rattle.theory.specs.Bytes
 use Rattle.checker.specs.Written.{baseKind, bytesOf, bytesOfs}
@@ -71,7 +71,7 @@ bare k b n z e l bs h g = h (rw e z) ∙ ap (λ i. i ∷ bs) e
 bodied : (k b n : ℕ) → bodyLength n ≡ 1 → k ≡ n → (l bs : List ℕ) → (bodyLength k ≡ 0 → l ≡ k ∷ bs) → (bodyLength k ≡ 1 → l ≡ k ∷ b ∷ bs) → l ≡ n ∷ b ∷ bs
 bodied k b n z e l bs h g = g (rw e z) ∙ ap (λ i. i ∷ b ∷ bs) e
 
-builtin-reads : (k b n : ℕ) → k ≡ 0x18 → b ≤ 5 → Reads k b (good (callRecord b n))
+builtin-reads : (k b n : ℕ) → k ≡ 0x18 → b ≤ lastCalled → Reads k b (good (callRecord b n))
 builtin-reads k b n e h l bs f g =
     let s : b < 16 = omega arith in
     bodied k b 0x18 refl e l bs f g ∙ rw (lt-ltb b 16 s)
@@ -90,7 +90,7 @@ tok-reads D p k b =
     (pick-reads k b (eqb k 0x15) _ _ (λ e. four-reads k b (ltb b (D .exceptions)) (raiseRecord b) p (λ u. bodied k b 0x15 refl (eqb-true k 0x15 e)))
     (pick-reads k b (eqb k 0x16) _ _ (λ e. four-reads k b (ltb b (D .exceptions)) (handleRecord b) p (λ u. bodied k b 0x16 refl (eqb-true k 0x16 e)))
     (pick-reads k b (eqb k 0x17) _ _ (λ e. bare k b 0x17 refl (eqb-true k 0x17 e))
-    (pick-reads k b (eqb k 0x18) _ _ (λ e. four-reads k b (leb b 5) (callRecord b _) p (λ u. builtin-reads k b (nthFun builtinFuns b .arity) (eqb-true k 0x18 e) (leb-true b 5 u)))
+    (pick-reads k b (eqb k 0x18) _ _ (λ e. four-reads k b (leb b lastCalled) (callRecord b _) p (λ u. builtin-reads k b (nthFun builtinFuns b .arity) (eqb-true k 0x18 e) (leb-true b lastCalled u)))
     (pick-reads k b (eqb k 0x19) _ _ (λ e. four-reads k b (ltb b (length (D .arities))) (callRecord (16 + b) _) p (λ u. call-reads k b (nthArity (D .arities) b) (eqb-true k 0x19 e))) tt)))))))))
 
 -- `due` terms, and their bytes

@@ -4,7 +4,7 @@ use mathlib.Core.List.{List}
 use lib.Dec.{leb, ltb}
 use lib.ListN.{length, getD}
 use Rattle.theory.specs.Bytes.{Result, refused, good, TermRecord, constantRecord, succRecord, ifRecord, variableRecord, raiseRecord, handleRecord, callRecord, orRefuse4, termRecord}
-use Rattle.theory.specs.Builtins.{nthFun, builtinFuns}
+use Rattle.theory.specs.Builtins.{builtinFuns, lastCalled, nthFun}
 use Rattle.theory.specs.Syntax.{pick}
 use Rattle.checker.specs.declared.node.Node.{Node}
 use Rattle.checker.specs.declared.node.Node.the-variants.{Refused, Leaf, Succ, Inner}
@@ -35,7 +35,7 @@ exceptionNode n b k = pick (ltb b n) (Inner k 2) (Refused 4)
 
 -- a call of the built-in b
 unfoldable pub builtinNode : ℕ → Node
-builtinNode b = pick (leb b 5) (Inner (nthFun builtinFuns b .arity) 1) (Refused 4)
+builtinNode b = pick (leb b lastCalled) (Inner (nthFun builtinFuns b .arity) 1) (Refused 4)
 
 -- a call of the declared function b
 unfoldable pub functionNode : List ℕ → ℕ → Node

@@ -13,6 +13,9 @@ const ARITIES: [u8; 48] = [
     0, 0, 0, 0, 0, 0, 0, 0, 0, 0, 0, 0, 0, 0, 0, 0,
 ];
 
+// A program or a question may call the built-ins up to this one.
+pub const LAST_CALLED: usize = 5;
+
 pub fn start_arities() -> [u8; 48]
     ensures { λ r. ⌜ r ≡ table [] ⌝ }
 {

@@ -1,5 +1,6 @@
 // A term's record by its kind and body, wherever the term stands.
 use crate::builtins::builtin_arity;
+use crate::builtins::LAST_CALLED;
 ghost use mathlib.Core.Path.{_≡_};
 ghost use Prim.Native.Nat.{ℕ, _≤_};
 ghost use Rattle.checker.specs.Node.{tokAt, nodeOf, exceptionNode, builtinNode, functionNode, SmallNode};
@@ -31,7 +32,7 @@ fn of_builtin(body: u8) -> Node
     ensures { λ r. ⌜ SmallNode r ⌝ }
 {
     let b = body as usize;
-    if b <= 5 {
+    if b <= LAST_CALLED {
         return Node::Inner {
             parts: builtin_arity(b),
             words: 1,

@@ -5,7 +5,9 @@ ghost use Rattle.theory.specs.Builtins.{funOf};
 ghost use Rattle.theory.specs.Translation.{standing};
 ghost use Rattle.theory.specs.Words.{storedRules};
 
-pub const STANDING: [u16; 365] = [
+const WORDS: usize = 389;
+
+pub const STANDING: [u16; WORDS] = [
     3, 1, 7, 5, 64, 64,   // guard(tt,y)->y
     4, 2, 7, 6, 64, 65, 6, 64,   // guard(fire(x),y)->fire(x)
     3, 2, 9, 2, 64, 9, 64,   // isData(succ(x))->isData(x)
@@ -51,10 +53,14 @@ pub const STANDING: [u16; 365] = [
     4, 1, 299, 1, 2, 64, 4,   // =_3(0,succ(y))->False
     4, 1, 299, 2, 64, 1, 4,   // =_3(succ(x),0)->False
     5, 3, 299, 2, 64, 2, 65, 296, 64, 65,   // =_3(succ(x),succ(y))->=(x,y)
+    3, 1, 299, 3, 3, 3,   // =_3(True,True)->True
+    3, 1, 299, 3, 4, 4,   // =_3(True,False)->False
+    3, 1, 299, 4, 3, 4,   // =_3(False,True)->False
+    3, 1, 299, 4, 4, 3,   // =_3(False,False)->True
 ];
 
 // The standing list's words. A constant is copied wherever it is named: name it once, by this, and lend it.
-pub fn standing_list() -> [u16; 365]
+pub fn standing_list() -> [u16; WORDS]
     ensures { λ r. ⌜ r ≡ storedRules (standing (funOf [])) ⌝ }
 {
     STANDING

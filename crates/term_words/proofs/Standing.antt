@@ -9,12 +9,12 @@ use native.Mathlib.Nat.{suc-add, zero-add}
 use native.Mathlib.Omega.{arith}
 use lib.Dec.{ltb}
 use lib.ListN.{length, length-append}
-use borrow.Author.Tests.{lt-ltb, le-ltb}
 use Rattle.theory.specs.Syntax.{zeroB, trueB, falseB, Term, succ, handle, cond, call, Terms, tnil, tcons, many, pick}
 use Rattle.theory.specs.Bytes.{TermRecord, constantRecord, succRecord, ifRecord, variableRecord, raiseRecord, handleRecord, callRecord, recordParts, recordWords, firstTerms, laterTerms, nthTerm, termFrom, termsFrom, bodyLength, withBody, good, Declared, readQuestion, Agrees}
 use Rattle.theory.specs.Encoding.{callBytes, encode, encodes, termWords, termsWords, OverDeclared, AllOverDeclared}
 use Rattle.theory.proofs.Accepted.{TokOk, AllTok, Balanced}
 use Rattle.theory.proofs.RecordsOfTerms.{bytesTok, bytesToks, wordsToks, flats, flats-bytes, flats-words, flats-ok, flats-due, flats-build}
+use Rattle.theory.proofs.SidesRead.{low-call, high-call}
 use Rattle.theory.proofs.AcceptedExactly.{question-accepted-exactly}
 use Rattle.record.specs.Record.{recordOf, recordAt}
 use Rattle.term_words.specs.Records.{plainRecord, longRecord, recordThen, recordsPast, recordsFrom, recordBytes, Whole, spanOf, countOf, from, termAt}
@@ -29,14 +29,6 @@ records-long : (arities : List ℕ) (k b : ℕ) (l : List ℕ) → bodyLength k 
 unfolding recordsPast recordAt
 records-long arities k b l e = ap (λ (n : ℕ). let r = recordOf (withBody k n (b ∷ l)) in recordThen arities r (recordsPast arities (r .len - 1) (b ∷ l))) e
 
-low-call : (b : ℕ) → b ≤ 5 → 0x18 ∷ b ∷ [] ≡ callBytes b
-low-call b h = sym (ap (λ (x : Bool). pick x (0x18 ∷ b ∷ []) (0x19 ∷ (b - 16) ∷ [])) (lt-ltb b 16 (omega arith)))
-
-high-call : (b : ℕ) → 0x19 ∷ b ∷ [] ≡ callBytes (16 + b)
-high-call b =
-    let z : b ≡ 16 + b - 16 = omega arith in
-    ap (λ (i : ℕ). 0x19 ∷ i ∷ []) z ∙ sym (ap (λ (x : Bool). pick x (0x18 ∷ (16 + b) ∷ []) (0x19 ∷ (16 + b - 16) ∷ [])) (le-ltb (16 + b) 16 (omega arith)))
-
 module _ (D : Declared) (arities : List ℕ) (h : Agrees D arities) where
   record-read : (k : TermRecord) (rest : List ℕ) → TokOk D k → recordsFrom arities (bytesTok k ++ rest) ≡ k ∷ recordsFrom arities rest
   record-read (constantRecord zeroB) rest o = records-plain arities 0x10 rest refl
@@ -48,13 +40,13 @@ module _ (D : Declared) (arities : List ℕ) (h : Agrees D arities) where
   record-read (raiseRecord e) rest o = records-long arities 0x15 e rest refl
   record-read (handleRecord e) rest o = records-long arities 0x16 e rest refl
   record-read (callRecord k n) rest (inl o) =
-      ap (λ (l : List ℕ). recordsFrom arities (l ++ rest)) (sym (low-call k (o .0)))
+      ap (λ (l : List ℕ). recordsFrom arities (l ++ rest)) (low-call k (o .0))
       ∙ records-long arities 0x18 k rest refl
       ∙ ap (λ (i : ℕ). callRecord k i ∷ recordsFrom arities rest) (h .builtin k (o .0) ∙ sym (o .1))
   record-read (callRecord k n) rest (inr o) =
       let f = o .0 in
       ap (λ (i : ℕ). recordsFrom arities (callBytes i ++ rest)) (o .1)
-      ∙ ap (λ (l : List ℕ). recordsFrom arities (l ++ rest)) (sym (high-call f))
+      ∙ ap (λ (l : List ℕ). recordsFrom arities (l ++ rest)) (high-call f)
       ∙ records-long arities 0x19 f rest refl
       ∙ ap₂ (λ (i j : ℕ). callRecord i j ∷ recordsFrom arities rest) (sym (o .1)) (h .declared f (o .2) ∙ sym (o .3))
 

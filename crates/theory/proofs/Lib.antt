@@ -45,3 +45,7 @@ pub mod CountedSteps
 pub mod ReadOff
 pub mod Sums
 pub mod Examples
+-- what the built-in functions give
+pub mod PaperAnswered
+pub mod Equality
+pub mod Reached

@@ -8,7 +8,7 @@ use native.Mathlib.Omega.{arith}
 use lib.Dec.{T, eqb, leb, ltb, leb→le, eqb→eq}
 use lib.ListN.{length, length-append}
 use Rattle.theory.specs.Syntax.{zeroB, trueB, falseB, Term, Terms, tnil, tcons, many, Pat, pbase, psucc, pvar, pick, choose, elem}
-use Rattle.theory.specs.Builtins.{builtinFuns, nthFun}
+use Rattle.theory.specs.Builtins.{builtinFuns, lastCalled, nthFun}
 use Rattle.theory.specs.Proper.{Distinct, AllIn, patVars, patsVars, termVars, termsVars}
 use Rattle.theory.specs.Bytes.{TermRecord, constantRecord, succRecord, ifRecord, variableRecord, raiseRecord, handleRecord, callRecord, recordParts, recordWords, nthTerm, termsFrom, NextRecord, noneLeft, cutShort, nextIs, bodyLength, withBody, nextRecord, Result, refused, good, refuse, ifGood, Declared, nthArity, orRefuse4, termRecord, Where, onLeft, onRight, inQuestion, allowed, ceiling, Side, addRecord, readTermRecord, readSide, patsOf, varsOf}
 use Rattle.theory.specs.Encoding.{callBytes, encode, encodes, encodePats, termWords, termsWords, patsWords, OverDeclared, AllOverDeclared, Each}
@@ -59,10 +59,10 @@ four-told : (Q : TermRecord → Type 0) (b : Bool) (t : TermRecord) (p : ℕ) �
 four-told Q true t p h = h tt
 four-told Q false t p h = tt
 
-low-call : (b : ℕ) → b ≤ 5 → callBytes b ≡ 0x18 ∷ b ∷ []
+pub low-call : (b : ℕ) → b ≤ lastCalled → callBytes b ≡ 0x18 ∷ b ∷ []
 low-call b h = ap (λ (x : Bool). pick x (0x18 ∷ b ∷ []) (0x19 ∷ (b - 16) ∷ [])) (leb-true (suc b) 16 (omega (arith, h)))
 
-high-call : (b : ℕ) → callBytes (16 + b) ≡ 0x19 ∷ b ∷ []
+pub high-call : (b : ℕ) → callBytes (16 + b) ≡ 0x19 ∷ b ∷ []
 high-call b =
     let z : 16 + b - 16 ≡ b = omega arith in
     ap (λ (x : Bool). pick x (0x18 ∷ (16 + b) ∷ []) (0x19 ∷ (16 + b - 16) ∷ [])) (leb-false (suc (16 + b)) 16 (omega arith)) ∙ ap (λ (i : ℕ). 0x19 ∷ i ∷ []) z
@@ -78,7 +78,7 @@ tok-is D p k b c n bs rest h =
     (told 0x15 _ _ (λ s. four-told Q (ltb b (D .exceptions)) (raiseRecord b) p (λ l. s))
     (told 0x16 _ _ (λ s. four-told Q (ltb b (D .exceptions)) (handleRecord b) p (λ l. s))
     (told 0x17 _ _ (λ s. s)
-    (told 0x18 _ _ (λ s. four-told Q (leb b 5) (callRecord b (nthFun builtinFuns b .arity)) p (λ l. called 0x18 b s (low-call b (leb→le b 5 l))))
+    (told 0x18 _ _ (λ s. four-told Q (leb b lastCalled) (callRecord b (nthFun builtinFuns b .arity)) p (λ l. called 0x18 b s (low-call b (leb→le b lastCalled l))))
     (told 0x19 _ _ (λ s. four-told Q (ltb b (length (D .arities))) (callRecord (16 + b) (nthArity (D .arities) b)) p (λ l. called 0x19 (16 + b) s (high-call b))) tt)))))))))
   where
     Q : TermRecord → Type 0
@@ -114,7 +114,7 @@ tok-back D (callRecord k n) p rest (inl h) =
       kind = 0x18;
       number = k;
       read = ap (λ (l : List ℕ). nextRecord (l ++ rest)) (low-call k (h .0)) ∙ ap (λ (l : List ℕ). nextIs 0x18 k 0 (length l) rest) (sym (low-call k (h .0)));
-      is = four-true (leb k 5) (callRecord k (nthFun builtinFuns k .arity)) p (leb-true k 5 (h .0)) ∙ ap (λ (i : ℕ). good (callRecord k i)) (sym (h .1));
+      is = four-true (leb k lastCalled) (callRecord k (nthFun builtinFuns k .arity)) p (leb-true k lastCalled (h .0)) ∙ ap (λ (i : ℕ). good (callRecord k i)) (sym (h .1));
     }
 tok-back D (callRecord k n) p rest (inr h) =
     let f = h .0 in

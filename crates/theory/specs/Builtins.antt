@@ -1,4 +1,4 @@
--- The built-in functions of document 01 (+, *, not, <=, <, =), and a program made from its declared functions with them.
+-- The built-in functions of document 01 (+, *, not, <=, <, =) with document 02's Q-2, and a program made from its declared functions with them.
 use Prim.Native.Nat.{ℕ, zero, suc, _-_}
 use mathlib.Core.List.{List, [], _∷_}
 use lib.Dec.{ltb}
@@ -27,21 +27,39 @@ abbrev pub ŷ : Pat
 abbrev pub 0̂ : Pat
 0̂ = pbase zeroB
 
+abbrev pub truê : Pat
+truê = pbase trueB
+
+abbrev pub falsê : Pat
+falsê = pbase falseB
+
 abbrev pub x : Term
 x = tvar 0
 
 abbrev pub y : Term
 y = tvar 1
 
+-- Each with document 01's rules in their order; the rules of = for two flags are document 02's Q-2.
 abbrev pub builtinFuns : List Fun
 builtinFuns =
+    -- 0 +
     function 2 (((0̂ ∷ pvar 0 ∷ []) ↝ tvar 0) ∷ ((psucc x̂ ∷ ŷ ∷ []) ↝ succ (call2 0 x y)) ∷ [])
+    -- 1 *
     ∷ function 2 (((0̂ ∷ pvar 0 ∷ []) ↝ o) ∷ ((psucc x̂ ∷ ŷ ∷ []) ↝ call2 0 y (call2 1 x y)) ∷ [])
-    ∷ function 1 (((pbase trueB ∷ []) ↝ const falseB) ∷ ((pbase falseB ∷ []) ↝ const trueB) ∷ [])
+    -- 2 not
+    ∷ function 1 (((truê ∷ []) ↝ const falseB) ∷ ((falsê ∷ []) ↝ const trueB) ∷ [])
+    -- 3 <=
     ∷ function 2 (((0̂ ∷ pvar 0 ∷ []) ↝ const trueB) ∷ ((psucc x̂ ∷ 0̂ ∷ []) ↝ const falseB) ∷ ((psucc x̂ ∷ psucc ŷ ∷ []) ↝ call2 3 x y) ∷ [])
+    -- 4 <
     ∷ function 2 (((x̂ ∷ 0̂ ∷ []) ↝ const falseB) ∷ ((0̂ ∷ psucc (pvar 0) ∷ []) ↝ const trueB) ∷ ((psucc x̂ ∷ psucc ŷ ∷ []) ↝ call2 4 x y) ∷ [])
-    ∷ function 2 (((0̂ ∷ 0̂ ∷ []) ↝ const trueB) ∷ ((0̂ ∷ psucc (pvar 0) ∷ []) ↝ const falseB) ∷ ((psucc x̂ ∷ 0̂ ∷ []) ↝ const falseB) ∷ ((psucc x̂ ∷ psucc ŷ ∷ []) ↝ call2 5 x y) ∷ [])
+    -- 5 =
+    ∷ function 2 (((0̂ ∷ 0̂ ∷ []) ↝ const trueB) ∷ ((0̂ ∷ psucc (pvar 0) ∷ []) ↝ const falseB) ∷ ((psucc x̂ ∷ 0̂ ∷ []) ↝ const falseB) ∷ ((psucc x̂ ∷ psucc ŷ ∷ []) ↝ call2 5 x y)
+    ∷ ((truê ∷ truê ∷ []) ↝ const trueB) ∷ ((truê ∷ falsê ∷ []) ↝ const falseB) ∷ ((falsê ∷ truê ∷ []) ↝ const falseB) ∷ ((falsê ∷ falsê ∷ []) ↝ const trueB) ∷ [])
     ∷ []
+
+-- A program or a question may call those up to this one: "a built-in over 5" is refused. No other file says the number.
+abbrev pub lastCalled : ℕ
+lastCalled = 5
 
 abbrev pub nthFun : List Fun → ℕ → Fun
 nthFun [] i = function 0 []

@@ -7,7 +7,7 @@ use mathlib.Core.List.{List, [], _∷_, _++_}
 use lib.Dec.{eqb, leb, ltb}
 use lib.ListN.{length, getD}
 use Rattle.theory.specs.Syntax.{Base, zeroB, trueB, falseB, Term, const, succ, tvar, raise, handle, cond, call, Terms, tnil, tcons, Pat, pbase, psucc, pvar, Def, Fun, Program, pick, choose, elem}
-use Rattle.theory.specs.Builtins.{builtinFuns, nthFun, program}
+use Rattle.theory.specs.Builtins.{builtinFuns, lastCalled, nthFun, program}
 use Rattle.theory.specs.Overlap.{overlaps}
 
 -- A record of a term.
@@ -114,7 +114,7 @@ nthArity (a ∷ ns) (suc i) = nthArity ns i
 
 -- arities by function number are those of the built-in functions, 0 to 5, and of the declared ones, from 16 on
 pub record Agrees (D : Declared) (arities : List ℕ) : Type 0 where
-  pub builtin : (b : ℕ) → b ≤ 5 → getD arities b 0 ≡ nthFun builtinFuns b .arity
+  pub builtin : (b : ℕ) → b ≤ lastCalled → getD arities b 0 ≡ nthFun builtinFuns b .arity
   pub declared : (f : ℕ) → f < length (D .arities) → getD arities (16 + f) 0 ≡ nthArity (D .arities) f
 
 -- a record of a term by its kind and body: 3 no such kind, 4 a number too large or a thing not declared
@@ -127,7 +127,7 @@ termRecord D p k b =
     pick (eqb k 0x10) (good (constantRecord zeroB)) (pick (eqb k 0x11) (good succRecord) (pick (eqb k 0x12) (good (constantRecord trueB)) (pick (eqb k 0x13) (good (constantRecord falseB))
     (pick (eqb k 0x14) (orRefuse4 (leb b 7) (variableRecord b) p) (pick (eqb k 0x15) (orRefuse4 (ltb b (D .exceptions)) (raiseRecord b) p)
     (pick (eqb k 0x16) (orRefuse4 (ltb b (D .exceptions)) (handleRecord b) p) (pick (eqb k 0x17) (good ifRecord)
-    (pick (eqb k 0x18) (orRefuse4 (leb b 5) (callRecord b (nthFun builtinFuns b .arity)) p)
+    (pick (eqb k 0x18) (orRefuse4 (leb b lastCalled) (callRecord b (nthFun builtinFuns b .arity)) p)
     (pick (eqb k 0x19) (orRefuse4 (ltb b (length (D .arities))) (callRecord (16 + b) (nthArity (D .arities) b)) p) (refuse 3 p))))))))))
 
 -- Where a term stands: on a left side, with the variables seen; on a right side, with those of its left; in a question.

@@ -13,7 +13,7 @@ use Rattle.theory.specs.Translation.{baseT, succT, ttT, exnT, fireT, gua
 abbrev pub Except : Program → ℕ → Type 0
 Except P e = e < P .exns
 
--- F_B', F_D and their union: the functions by their numbers. In F_B' are 0 +, 1 *, 2 not, 3 <=, 4 <, 5 =; if, handle, raise are not in it.
+-- F_B', F_D and their union: the functions by their numbers. In F_B' are those of Builtins; if, handle, raise are not in it.
 abbrev pub FB′ : ℕ → Type 0
 FB′ f = f ∈ builtins
 

@@ -10,6 +10,8 @@ pub mod Evaluation
 -- 2. Evaluation with document 01's steps and levels
 pub mod Cost
 pub mod Budget
+-- what the built-in functions are to give
+pub mod Arithmetic
 -- 3. Words, and the translation (004, definition 4.1)
 pub mod Words
 pub mod Translation

@@ -2,7 +2,9 @@
 use Prim.Native.Nat.{ℕ, zero, suc, _+_, _*_}
 use mathlib.Core.List.{List, [], _∷_, _++_}
 use lib.Dec.{eqb}
+use lib.ListN.{length}
 use Rattle.theory.specs.Syntax.{Base, zeroB, trueB, falseB, Val, base, up, Term, const, succ, tvar, raise, handle, cond, call, Terms, tnil, tcons, Pat, pbase, psucc, pvar, Def, Fun, Program, pick}
+use Rattle.theory.specs.Builtins.{builtinFuns}
 use Rattle.theory.specs.Tree.{Tree, Trees, var, node, [·], _▹_, Rule}
 
 abbrev pub baseT : Base → Tree
@@ -139,8 +141,9 @@ funRules fun k =
     let n = fun k .arity in
     entryRule k n ∷ (gather (argRule k n) (numbers 0 n) ++ ownRules k n (fun k .defs))
 
+-- the numbers of the built-in functions
 abbrev pub builtins : List ℕ
-builtins = numbers 0 6
+builtins = numbers 0 (length builtinFuns)
 
 -- the standing list and the program's own list
 abbrev pub standing : (ℕ → Fun) → List Rule

@@ -7,7 +7,7 @@ use native.Mathlib.Omega.{arith}
 use lib.Dec.{leb, ltb}
 use lib.ListN.{length, getD}
 use borrow.Author.Tests.{lt-ltb, le-ltb, le-leb, lt-leb, ne-eqb}
-use Rattle.theory.specs.Builtins.{nthFun, builtinFuns}
+use Rattle.theory.specs.Builtins.{builtinFuns, lastCalled, nthFun}
 use Rattle.theory.specs.Syntax.{pick}
 use Rattle.theory.specs.Bytes.{TermRecord, raiseRecord, handleRecord, callRecord, good, orRefuse4, nthArity}
 use Rattle.checker.specs.declared.node.Node.the-variants.{Refused, Leaf, Succ, Inner}
@@ -34,13 +34,13 @@ module _ (n b k : ℕ) where
   exception-unknown h = rw (le-ltb b n h)
 
 module _ (b : ℕ) where
-  pub builtin-known : b ≤ 5 → (a : ℕ) → a ≡ nthFun builtinFuns b .arity → Inner a 1 ≡ builtinNode b
+  pub builtin-known : b ≤ lastCalled → (a : ℕ) → a ≡ nthFun builtinFuns b .arity → Inner a 1 ≡ builtinNode b
   unfolding builtinNode
-  builtin-known h a q = rw (le-leb b 5 h, q)
+  builtin-known h a q = rw (le-leb b lastCalled h, q)
 
-  pub builtin-unknown : 5 < b → Refused 4 ≡ builtinNode b
+  pub builtin-unknown : lastCalled < b → Refused 4 ≡ builtinNode b
   unfolding builtinNode
-  builtin-unknown h = rw (lt-leb b 5 h)
+  builtin-unknown h = rw (lt-leb b lastCalled h)
 
   module _ (ns : List ℕ) where
     pub function-known : b < length ns → Inner (getD ns b 0) 1 ≡ functionNode ns b
@@ -83,7 +83,7 @@ module _ (n : ℕ) (ns : List ℕ) (p k b : ℕ) where
 
   pub builtin-read : k ≡ 0x18 → builtinNode b ≡ nodeOf (tokAt n ns p k b)
   unfolding builtinNode tokAt nodeOf
-  builtin-read e = rw e (four-node (leb b 5) (callRecord b (nthFun builtinFuns b .arity)) p)
+  builtin-read e = rw e (four-node (leb b lastCalled) (callRecord b (nthFun builtinFuns b .arity)) p)
 
   pub call-read : k ≡ 0x19 → functionNode ns b ≡ nodeOf (tokAt n ns p k b)
   unfolding functionNode tokAt nodeOf

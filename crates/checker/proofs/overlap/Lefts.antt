@@ -7,6 +7,7 @@ use native.Mathlib.Omega.{arith}
 use lib.Dec.{eqb, leb, ltb}
 use lib.ListN.{length}
 use borrow.Author.Tests.{eqb-true}
+use Rattle.theory.specs.Builtins.{lastCalled}
 use Rattle.theory.specs.Syntax.{elem, Base, zeroB, trueB, falseB, Terms, tnil, tcons, succ, pick, choose}
 use Rattle.theory.specs.Bytes.{TermRecord, constantRecord, succRecord, ifRecord, variableRecord, raiseRecord, handleRecord, callRecord, recordParts, recordWords, nthTerm, laterTerms, termsFrom, bodyLength, NextRecord, noneLeft, cutShort, nextIs, withBody, nextRecord, Result, refused, good, refuse, ifGood, Declared, orRefuse4, termRecord, Where, onLeft, allowed, ceiling, addRecord, readTermRecord, readSide, patsOf}
 use Rattle.theory.specs.Bytes
@@ -55,7 +56,7 @@ tok-kind D p k b =
     (pick-kind k b (eqb k 0x12) _ _ (λ e. eqb-true k 0x12 e) (pick-kind k b (eqb k 0x13) _ _ (λ e. eqb-true k 0x13 e)
     (pick-kind k b (eqb k 0x14) _ _ (λ e. four-kind k b (leb b 7) (variableRecord b) p (eqb-true k 0x14 e, refl))
     (pick-kind k b (eqb k 0x15) _ _ (λ e. four-kind k b (ltb b (D .exceptions)) (raiseRecord b) p tt) (pick-kind k b (eqb k 0x16) _ _ (λ e. four-kind k b (ltb b (D .exceptions)) (handleRecord b) p tt)
-    (pick-kind k b (eqb k 0x17) _ _ (λ e. tt) (pick-kind k b (eqb k 0x18) _ _ (λ e. four-kind k b (leb b 5) (callRecord b _) p tt)
+    (pick-kind k b (eqb k 0x17) _ _ (λ e. tt) (pick-kind k b (eqb k 0x18) _ _ (λ e. four-kind k b (leb b lastCalled) (callRecord b _) p tt)
     (pick-kind k b (eqb k 0x19) _ _ (λ e. four-kind k b (ltb b (length (D .arities))) (callRecord (16 + b) _) p tt) tt)))))))))
 
 -- `due` patterns, and their bytes

@@ -7,6 +7,7 @@ use native.Mathlib.Omega.{arith}
 use lib.Dec.{eqb, leb, ltb}
 use lib.ListN.{length, getD, set}
 use borrow.Author.Tests.{le-leb, lt-leb, ne-eqb}
+use Rattle.theory.specs.Builtins.{lastCalled}
 use Rattle.theory.specs.Syntax.{pick}
 use Rattle.theory.specs.Bytes.{TermRecord, constantRecord, succRecord, ifRecord, variableRecord, raiseRecord, handleRecord, callRecord, Result, refused, good, orRefuse4}
 use Rattle.checker.specs.declared.side.Stand.{Stand}
@@ -109,7 +110,7 @@ no-var n ns p k b h =
     rw (ne-eqb k 0x14 h)
     (pick-not (eqb k 0x10) _ _ tt (pick-not (eqb k 0x11) _ _ tt (pick-not (eqb k 0x12) _ _ tt (pick-not (eqb k 0x13) _ _ tt
     (pick-not (eqb k 0x15) _ _ (four-not (ltb b n) (raiseRecord b) p tt) (pick-not (eqb k 0x16) _ _ (four-not (ltb b n) (handleRecord b) p tt) (pick-not (eqb k 0x17) _ _ tt
-    (pick-not (eqb k 0x18) _ _ (four-not (leb b 5) (callRecord b _) p tt) (pick-not (eqb k 0x19) _ _ (four-not (ltb b (length ns)) (callRecord (16 + b) _) p tt) tt)))))))))
+    (pick-not (eqb k 0x18) _ _ (four-not (leb b lastCalled) (callRecord b _) p tt) (pick-not (eqb k 0x19) _ _ (four-not (ltb b (length ns)) (callRecord (16 + b) _) p tt) tt)))))))))
 
 module _ (m : Stand) (s : List Bool) (n : ℕ) (ns : List ℕ) (p k b : ℕ) (o : Node) (other : k ≡ 0x14 → ⊥) (read : o ≡ nodeOf (tokAt n ns p k b)) where
   over-other : (q : Node) → o ≡ q → overNode m s q ≡ stepOf m s (tokAt n ns p k b)

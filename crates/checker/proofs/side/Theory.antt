@@ -8,6 +8,7 @@ use lib.Dec.{eqb, leb, ltb}
 use lib.ListN.{length, getD, drop, set}
 use lib.Seq.{drop-drop}
 use borrow.Author.Tests.{ne-eqb, leb-true}
+use Rattle.theory.specs.Builtins.{lastCalled}
 use Rattle.theory.specs.Syntax.{elem, pick, choose}
 use Rattle.theory.specs.Bytes.{TermRecord, constantRecord, succRecord, ifRecord, variableRecord, raiseRecord, handleRecord, callRecord, recordParts, recordWords, NextRecord, noneLeft, cutShort, nextIs, nextRecord, Result, refused, good, refuse, ifGood, orRefuse4, Where, onLeft, onRight, inQuestion, allowed, ceiling, addRecord, readTermRecord, readSide}
 use Rattle.theory.specs.Bytes
@@ -67,7 +68,7 @@ tok-marked n ns p k b =
     pick-marked p (eqb k 0x10) _ _ tt (pick-marked p (eqb k 0x11) _ _ tt (pick-marked p (eqb k 0x12) _ _ tt (pick-marked p (eqb k 0x13) _ _ tt
     (pick-marked p (eqb k 0x14) _ _ (four-marked p (leb b 7) (variableRecord b) (λ e. leb-true b 7 e))
     (pick-marked p (eqb k 0x15) _ _ (four-marked p (ltb b n) (raiseRecord b) (λ e. tt)) (pick-marked p (eqb k 0x16) _ _ (four-marked p (ltb b n) (handleRecord b) (λ e. tt)) (pick-marked p (eqb k 0x17) _ _ tt
-    (pick-marked p (eqb k 0x18) _ _ (four-marked p (leb b 5) (callRecord b _) (λ e. tt)) (pick-marked p (eqb k 0x19) _ _ (four-marked p (ltb b (length ns)) (callRecord (16 + b) _) (λ e. tt)) (refl, omega arith))))))))))
+    (pick-marked p (eqb k 0x18) _ _ (four-marked p (leb b lastCalled) (callRecord b _) (λ e. tt)) (pick-marked p (eqb k 0x19) _ _ (four-marked p (ltb b (length ns)) (callRecord (16 + b) _) (λ e. tt)) (refl, omega arith))))))))))
 
 -- what the theory allows is what the step takes
 abbrev Allows : Where → ℕ → TermRecord → Result Where → Step → Type 0

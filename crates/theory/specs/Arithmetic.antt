@@ -1,0 +1,62 @@
+-- What the built-in functions are to give, in the words of document 02's Q-2. proofs/Equality holds the rules against it.
+use Prim.Native.Nat.{ℕ, zero, suc, _≤_}
+use mathlib.Core.Path.{_≡_}
+use mathlib.Core.Bool.{Bool, true, false}
+use mathlib.Core.List.{[], _∷_}
+use mathlib.Core.Option.{some}
+use lib.Dec.{eqb, ltb}
+use Rattle.theory.specs.Syntax.{Base, zeroB, trueB, falseB, Val, base, up, height, Term, const, succ, Terms, call, Program, Bindings, nothingBound, pick}
+use Rattle.theory.specs.Builtins.{call2}
+use Rattle.theory.specs.Evaluation.{Outcome, normal, other, normals, Ev, EvArgs, outcomeOf}
+use Rattle.theory.specs.Cost.{eval}
+
+-- the number n, and a test's answer, as values
+abbrev pub num : ℕ → Val
+num zero = base zeroB
+num (suc n) = up (num n)
+
+abbrev pub flag : Bool → Val
+flag true = base trueB
+flag false = base falseB
+
+-- Built-in k on the values v and w gives m: under all bindings, and for all arguments that have these values.
+abbrev pub Gives : Program → ℕ → Val → Val → Outcome → Type 0
+Gives P k v w m = (θ : Bindings) (ts : Terms) → EvArgs P θ ts (normals (v ∷ w ∷ [])) → Ev P θ (call k ts) m
+
+-- a value as the term that is it, and a built-in asked about two values
+abbrev pub written : Val → Term
+written (base b) = const b
+written (up v) = succ (written v)
+
+abbrev pub asked : ℕ → Val → Val → Term
+asked k v w = call2 k (written v) (written w)
+
+-- "allowances large enough": from some number of levels on, the evaluation of that question ends as m
+abbrev pub Reached : Program → ℕ → Val → Val → Outcome → Type 0
+Reached P k v w m = (L : ℕ) × ((L′ : ℕ) → L ≤ L′ → outcomeOf (eval P L′ nothingBound (asked k v w) .ending) ≡ some m)
+
+-- Q-2: = on every pair of values, each k times succ over a constant. With the same k the constants decide: "a number against a flag stays stuck".
+-- With different k it is the constant of the value with fewer succ: 0 is no succ of anything, a flag against succ is stuck.
+abbrev pub baseOf : Val → Base
+baseOf (base b) = b
+baseOf (up v) = baseOf v
+
+abbrev pub equalBases : Base → Base → Outcome
+equalBases zeroB zeroB = normal (flag true)
+equalBases zeroB trueB = other
+equalBases zeroB falseB = other
+equalBases trueB zeroB = other
+equalBases trueB trueB = normal (flag true)
+equalBases trueB falseB = normal (flag false)
+equalBases falseB zeroB = other
+equalBases falseB trueB = normal (flag false)
+equalBases falseB falseB = normal (flag true)
+
+abbrev pub againstSucc : Base → Outcome
+againstSucc zeroB = normal (flag false)
+againstSucc trueB = other
+againstSucc falseB = other
+
+abbrev pub equality : Val → Val → Outcome
+equality v w =
+    pick (eqb (height v) (height w)) (equalBases (baseOf v) (baseOf w)) (pick (ltb (height v) (height w)) (againstSucc (baseOf v)) (againstSucc (baseOf w)))
