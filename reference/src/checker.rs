@@ -220,7 +220,7 @@ impl Reader<'_> {
         let declared = match record.kind {
             VARIABLE => number < VARIABLES,
             RAISE | HANDLE => number < program.exceptions,
-            BUILTIN => number < builtins().len(),
+            BUILTIN => number <= LAST_CALLED,
             CALL => number < program.functions.len(),
             _ => true,
         };

@@ -440,8 +440,13 @@ fn term(
             };
             bytes.extend([BUILTIN, number]);
             let arity = builtins()[usize::from(number)].arity;
+            // = is of truth values too
+            let parts_sort = match number {
+                5 => random.pick(&[Sort::Number, Sort::Number, Sort::Truth]),
+                _ => Sort::Number,
+            };
             for part in random.split(words - 1, arity) {
-                term(random, shape, scope, Sort::Number, part, bytes);
+                term(random, shape, scope, parts_sort, part, bytes);
             }
         }
         62..=89 if call(random, shape, scope, sort, words, bytes) => {}
@@ -1049,7 +1054,8 @@ fn left_side_nodes(random: &mut Random) -> (Vec<u8>, Vec<u8>) {
     let kind = random.pick(&[RAISE, HANDLE, IF, BUILTIN, CALL, EXCEPTION, END, 0x1a, 0x05]);
     program.push(kind);
     for _ in 0..body_length(kind).unwrap_or(0) {
-        program.push(random.pick(&[0, 1, 2, 5, 6, 200]));
+        let last = LAST_CALLED as u8;
+        program.push(random.pick(&[0, 1, 2, last, last + 1, 200]));
     }
     program.extend([VARIABLE, 0, VARIABLE, 0, ZERO, ZERO, END]);
     if random.chance(25) {

@@ -115,7 +115,10 @@ pub struct Answer {
     pub steps: u64,
 }
 
-/// The built-in functions 0 to 5 with their rules. Variables are numbered by
+/// The last built-in function that a program or a question may call.
+pub const LAST_CALLED: usize = 5;
+
+/// The built-in functions with their rules. Variables are numbered by
 /// first appearance on the left. A built-in's arity is that of its rules.
 pub fn builtins() -> &'static [Function] {
     static BUILTINS: OnceLock<Vec<Function>> = OnceLock::new();
@@ -165,6 +168,10 @@ pub fn builtins() -> &'static [Function] {
                 rule(vec![zero(), succ(v(0))], no()),
                 rule(vec![succ(v(0)), zero()], no()),
                 rule(vec![succ(v(0)), succ(v(1))], call(5, v(0), v(1))),
+                rule(vec![yes(), yes()], yes()),
+                rule(vec![yes(), no()], no()),
+                rule(vec![no(), yes()], no()),
+                rule(vec![no(), no()], yes()),
             ],
         ];
         let with_arity = |rules: Vec<Rule>| Function {

@@ -50,7 +50,7 @@ impl<'a> Rules<'a> {
             }
         }
         let mut by_root = vec![Vec::new(); words];
-        for rule in rules_of(STANDING).into_iter().chain(rules_of(own)) {
+        for rule in rules_of(standing_list()).into_iter().chain(rules_of(own)) {
             let root = sides(rule).0[0];
             by_root[usize::from(root)].push(rule);
         }

@@ -1,9 +1,10 @@
-//! The translator: terms as words, the standing list of 45 rules as data, and
-//! a program's own list in document 01's order.
+//! The translator: terms as words, the standing list, and a program's own list
+//! in document 01's order.
 //!
 //! A rule is stored as left count, right count, left words, right words.
 
 use crate::language::*;
+use std::sync::OnceLock;
 
 // The words of the rewrite system.
 pub const ZERO: u16 = 1;
@@ -43,9 +44,9 @@ pub fn base_word(base: Base) -> u16 {
     }
 }
 
-/// The standing list, the same for every program: 45 rules.
+/// The standing list's rules that belong to no function.
 #[rustfmt::skip]
-pub const STANDING: &[u16] = &[
+const COMMON: &[u16] = &[
     3, 1,  7, 5, 64,              64,                      // guard(tt,y) -> y
     4, 2,  7, 6, 64, 65,          6, 64,                   // guard(fire(x),y) -> fire(x)
     3, 2,  9, 2, 64,              9, 64,                   // isData(succ(x)) -> isData(x)
@@ -58,46 +59,20 @@ pub const STANDING: &[u16] = &[
     4, 1,  10, 4, 64, 65,         65,                      // if(False,y,z) -> z
     5, 2,  10, 6, 64, 65, 66,     6, 64,                   // if(fire(x),y,z) -> fire(x)
     5, 1,  8, 5, 64, 65, 66,      64,                      // select(tt,x,y,z) -> x
-    // +
-    3, 3,  256, 64, 65,           257, 64, 65,             // +(x,y) -> +1(x,y)
-    3, 6,  257, 64, 65,           7, 9, 64, 258, 64, 65,   // +1(x,y) -> guard(isData(x),+2(x,y))
-    3, 6,  258, 64, 65,           7, 9, 65, 259, 64, 65,   // +2(x,y) -> guard(isData(y),+3(x,y))
-    3, 1,  259, 1, 64,            64,                      // +3(0,y) -> y
-    4, 4,  259, 2, 64, 65,        2, 256, 64, 65,          // +3(succ(x),y) -> succ(+(x,y))
-    // *
-    3, 3,  264, 64, 65,           265, 64, 65,             // *(x,y) -> *1(x,y)
-    3, 6,  265, 64, 65,           7, 9, 64, 266, 64, 65,   // *1(x,y) -> guard(isData(x),*2(x,y))
-    3, 6,  266, 64, 65,           7, 9, 65, 267, 64, 65,   // *2(x,y) -> guard(isData(y),*3(x,y))
-    3, 1,  267, 1, 64,            1,                       // *3(0,y) -> 0
-    4, 5,  267, 2, 64, 65,        256, 65, 264, 64, 65,    // *3(succ(x),y) -> +(y,*(x,y))
-    // not
-    2, 2,  272, 64,               273, 64,                 // not(x) -> not1(x)
-    2, 5,  273, 64,               7, 9, 64, 274, 64,       // not1(x) -> guard(isData(x),not2(x))
-    2, 1,  274, 3,                4,                       // not2(True) -> False
-    2, 1,  274, 4,                3,                       // not2(False) -> True
-    // <=
-    3, 3,  280, 64, 65,           281, 64, 65,             // <=(x,y) -> <=1(x,y)
-    3, 6,  281, 64, 65,           7, 9, 64, 282, 64, 65,   // <=1(x,y) -> guard(isData(x),<=2(x,y))
-    3, 6,  282, 64, 65,           7, 9, 65, 283, 64, 65,   // <=2(x,y) -> guard(isData(y),<=3(x,y))
-    3, 1,  283, 1, 64,            3,                       // <=3(0,y) -> True
-    4, 1,  283, 2, 64, 1,         4,                       // <=3(succ(x),0) -> False
-    5, 3,  283, 2, 64, 2, 65,     280, 64, 65,             // <=3(succ(x),succ(y)) -> <=(x,y)
-    // <
-    3, 3,  288, 64, 65,           289, 64, 65,             // <(x,y) -> <1(x,y)
-    3, 6,  289, 64, 65,           7, 9, 64, 290, 64, 65,   // <1(x,y) -> guard(isData(x),<2(x,y))
-    3, 6,  290, 64, 65,           7, 9, 65, 291, 64, 65,   // <2(x,y) -> guard(isData(y),<3(x,y))
-    3, 1,  291, 64, 1,            4,                       // <3(x,0) -> False
-    4, 1,  291, 1, 2, 64,         3,                       // <3(0,succ(y)) -> True
-    5, 3,  291, 2, 64, 2, 65,     288, 64, 65,             // <3(succ(x),succ(y)) -> <(x,y)
-    // =
-    3, 3,  296, 64, 65,           297, 64, 65,             // =(x,y) -> =1(x,y)
-    3, 6,  297, 64, 65,           7, 9, 64, 298, 64, 65,   // =1(x,y) -> guard(isData(x),=2(x,y))
-    3, 6,  298, 64, 65,           7, 9, 65, 299, 64, 65,   // =2(x,y) -> guard(isData(y),=3(x,y))
-    3, 1,  299, 1, 1,             3,                       // =3(0,0) -> True
-    4, 1,  299, 1, 2, 64,         4,                       // =3(0,succ(y)) -> False
-    4, 1,  299, 2, 64, 1,         4,                       // =3(succ(x),0) -> False
-    5, 3,  299, 2, 64, 2, 65,     296, 64, 65,             // =3(succ(x),succ(y)) -> =(x,y)
 ];
+
+/// The standing list, the same for every program: the rules of no function,
+/// then each built-in function's.
+pub fn standing_list() -> &'static [u16] {
+    static STANDING: OnceLock<Vec<u16>> = OnceLock::new();
+    STANDING.get_or_init(|| {
+        let mut list = COMMON.to_vec();
+        for (number, function) in builtins().iter().enumerate() {
+            push_function(&mut list, number, function);
+        }
+        list
+    })
+}
 
 /// A term as words, root first.
 pub fn term_words(term: &Term) -> Vec<u16> {
@@ -185,7 +160,7 @@ pub fn own_list(program: &Program) -> Vec<u16> {
 
 /// A function's entry rule, its argument rules from the first, and its own
 /// rules with the last auxiliary at the root.
-pub fn push_function(list: &mut Vec<u16>, number: usize, function: &Function) {
+fn push_function(list: &mut Vec<u16>, number: usize, function: &Function) {
     let arity = function.arity;
     let variables: Vec<u16> = (0..arity).map(variable_word).collect();
     let over_variables = |auxiliary| {

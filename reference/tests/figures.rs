@@ -209,7 +209,7 @@ fn figure_3() {
         .chain(&FIGURE_3_PLUS)
         .map(|text| rule(text))
         .collect();
-    assert_eq!(rules_of(STANDING)[..17], standing);
+    assert_eq!(rules_of(standing_list())[..17], standing);
 
     let own: Vec<Vec<u16>> = FIGURE_3_EXCEPTIONS
         .iter()
@@ -251,21 +251,24 @@ fn figure_4() {
 }
 
 #[test]
-fn the_standing_list_is_the_translated_built_ins() {
-    let rules = rules_of(STANDING);
-    assert_eq!(rules.len(), 45);
-    let mut list = rules[..12].concat();
-    for (number, function) in builtins().iter().enumerate() {
-        push_function(&mut list, number, function);
-    }
-    assert_eq!(list, STANDING);
+fn the_standing_list_is_the_table_of_the_code() {
+    let text = include_str!("../../crates/rules/src/table.rt");
+    let rows = text.split("] = [\n").nth(1).unwrap();
+    let rows = rows.split("];").next().unwrap();
+    let list: Vec<u16> = rows
+        .lines()
+        .flat_map(|row| row.split("//").next().unwrap().split(','))
+        .filter(|word| !word.trim().is_empty())
+        .map(|word| word.trim().parse().unwrap())
+        .collect();
+    assert_eq!(list, standing_list());
 }
 
 #[test]
 fn the_standing_list_is_well_formed_and_free_of_overlap() {
     let program = check_program(&[0x04]).unwrap();
     let system = Rules::new(&program, &[]);
-    let rules = rules_of(STANDING);
+    let rules = rules_of(standing_list());
     for rule in &rules {
         let (left, right) = sides(rule);
         assert_eq!(system.end_of_term(left, 0), left.len());
