@@ -1,13 +1,11 @@
 -- The laws of one step over a term's record, by where the term stands.
-use Prim.Native.Nat.{ℕ, _+_, _*_, _≤_, _<_}
+use Prim.Native.Nat.{ℕ, _*_, _≤_, _<_}
 use mathlib.Core.Path.{_≡_, refl, sym, ap, _∙_}
 use mathlib.Core.Bool.{Bool, true, false}
 use mathlib.Core.List.{List}
 use native.Mathlib.Omega.{arith}
-use lib.Dec.{eqb, leb, ltb}
-use lib.ListN.{length, getD, set}
-use borrow.Author.Tests.{le-leb, lt-leb, ne-eqb}
-use Rattle.theory.specs.Syntax.{pick}
+use lib.ListN.{getD, set}
+use borrow.Author.Tests.{le-leb, lt-leb}
 use Rattle.theory.specs.Bytes.{TermRecord, constantRecord, succRecord, ifRecord, variableRecord, raiseRecord, handleRecord, callRecord, Result, refused, good, termRecord}
 use Rattle.theory.proofs.RecordRead.{RecordRead, record-read}
 use Rattle.checker.specs.declared.side.Stand.{Stand}
