@@ -2,12 +2,10 @@
 use Prim.Native.Nat.{ℕ, zero, suc, _≤_}
 use mathlib.Core.Path.{_≡_, refl, sym, ap, _∙_}
 use mathlib.Core.Bool.{Bool, true, false}
-use mathlib.Core.List.{List, [], _∷_, _++_}
+use mathlib.Core.List.{List, [], _∷_}
 use native.Mathlib.Omega.{arith}
 use lib.Dec.{eqb, leb, ltb}
 use lib.ListN.{length, take, drop}
-use borrow.Author.Tests.{eqb-true}
-use Rattle.theory.proofs.Lists.{none-left}
 use Rattle.theory.specs.Syntax.{choose, Term}
 use Rattle.theory.specs.Bytes.{Result, refused, good, refuse, ifGood, RuleAt, addLast, Book, ruleCount, overlapsEarlier, refuseOverlaps, readRecords, emptyBook, readProgram, inQuestion, readSide, termsFrom, nthTerm, readQuestion}
 use Rattle.theory.specs.Bytes
@@ -18,11 +16,9 @@ use Rattle.checker.specs.Answer.{padded, table, refusedAs, checkedOf, de
 use Rattle.theory.specs.Bytes.{openedAt}
 use Rattle.checker.specs.Declarations.{Kept, stopTop, startTop, ownArities}
 use Rattle.checker.specs.Program.{turnOf, turns, parseOf, topAt, topOf}
-use Rattle.checker.specs.Written.{bytesOf}
 use Rattle.checker.proofs.program.Turns.{turn-goes, start-kept}
 use Rattle.checker.proofs.program.Theory.{own-are, parse-is}
-use Rattle.checker.proofs.Rules.{All, Stands, Standing, all-stand}
-use Rattle.checker.proofs.Written.{Wrote, side-wrote, one-wrote, unit-right}
+use Rattle.checker.proofs.Rules.{Standing, all-stand}
 use Rattle.checker.proofs.side.Theory.{Stays, scan-is-side}
 
 -- no refusal has the number 0
@@ -90,23 +86,7 @@ question-read n ns ws v e z = by-answer (readQuestion (declared n ns) ws) refl (
     by-answer (refused r) h k = absurd (k (sym (ap (λ (x : Verdict). x .number) (e ∙ ap verdictOf h)) ∙ z))
     by-answer (good t) h k = (t, h)
 
--- and an accepted question is the bytes of its term
-ended-written : (ws : List ℕ) (t : Term) (r : Result Bytes.Side) → Wrote 1 ws r
-    → ifGood r (λ s. choose (eqb (length (s .rest)) 0) (λ u. good (nthTerm (termsFrom (s .records)) 0)) (λ u. refuse 11 (s .from))) ≡ good t → ws ≡ bytesOf t
-ended-written ws t (refused r) h e = let z : _≡_ {A = ℕ} 0 1 = cc in absurd (omega arith)
-ended-written ws t (good s) h e = by-rest (eqb (length (s .rest)) 0) refl e
-  where
-    by-rest : (b : Bool) → eqb (length (s .rest)) 0 ≡ b → choose b (λ u. good (nthTerm (termsFrom (s .records)) 0)) (λ u. refuse 11 (s .from)) ≡ good t → ws ≡ bytesOf t
-    by-rest true z e =
-        let is : nthTerm (termsFrom (s .records)) 0 ≡ t = cc in
-        one-wrote ws s h ∙ ap (λ l. bytesOf (nthTerm (termsFrom (s .records)) 0) ++ l) (none-left (s .rest) (eqb-true (length (s .rest)) 0 z)) ∙ unit-right (bytesOf (nthTerm (termsFrom (s .records)) 0)) ∙ ap bytesOf is
-    by-rest false z e = let z : _≡_ {A = ℕ} 0 1 = cc in absurd (omega arith)
-
-pub question-written : (n : ℕ) (ns ws : List ℕ) (t : Term) → readQuestion (declared n ns) ws ≡ good t → ws ≡ bytesOf t
-unfolding readQuestion
-question-written n ns ws t e = ended-written ws t (readSide (declared n ns) (suc (length ws)) inQuestion 1 0 0 ws) (side-wrote (declared n ns) (suc (length ws)) inQuestion 1 0 0 ws) e
-
--- An accepted program has at most 32 functions and 64 rules, its rules stand in the bytes, and its arities are the part of the answer's table that is lent.
+-- An accepted program has at most 32 functions and 64 rules, and its arities are the part of the answer's table that is lent.
 stop-kept : (n p : ℕ) → Kept (stopTop n p)
 unfolding stopTop
 stop-kept n p = (omega arith, refl, omega arith, refl)
@@ -152,9 +132,6 @@ module _ (ws : List ℕ) (s : Book) (read : readProgram ws ≡ good s) where
   pub rules-most : ruleCount (s .rulesAt) ≤ 64
   unfolding topAt
   rules-most = rw parsed at (parse-kept ws) .2
-
-  pub rules-stand : All (Stands ws (s .decls .arities)) (s .rulesAt)
-  rules-stand = rw (top-good ws s read) at (all-stand ws)
 
   pub arities-lent : take (length (s .decls .arities)) (drop 16 (table (s .decls .arities))) ≡ s .decls .arities
   unfolding topAt ownArities

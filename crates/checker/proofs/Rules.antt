@@ -11,13 +11,14 @@ use borrow.Author.Tests.{eqb-true, leb-true}
 use Rattle.theory.specs.Syntax.{choose}
 use Rattle.theory.specs.Bytes.{NextRecord, noneLeft, cutShort, nextIs, nextRecord, Result, refused, good, refuse, ifGood, nthArity, onLeft, onRight, varsOf, readSide, RuleAt, patsOf, termsFrom, nthTerm, Book, addLast, orRefuse, readRule, readTopRecord, readRecords, emptyBook}
 use Rattle.theory.specs.Bytes
-use Rattle.checker.specs.Written.{bytesOf, encodes}
+use Rattle.theory.specs.Encoding.{encode, encodePats}
+use Rattle.theory.proofs.Tests.{true→T}
+use Rattle.theory.proofs.Accepted.{Ok}
+use Rattle.theory.proofs.SidesRead.{IsNext, next-is, of-kind, LeftReads, RightReads, left-reads, right-reads}
 use Rattle.record.proofs.Laws.{Behind, behind}
 use Rattle.checker.proofs.node.Laws.{nth-getD}
 use Rattle.checker.proofs.side.Theory.{Stays, scan-is-side}
 use Rattle.checker.proofs.program.Theory.{excepted, functioned, ruled}
-use Rattle.checker.proofs.Written.{Wrote, side-wrote, one-wrote}
-use Rattle.checker.proofs.overlap.Lefts.{Spelt, spelt, Lies, left-lies}
 
 abbrev pub All : (RuleAt → Type 0) → List RuleAt → Type 0
 All P [] = Unit {0}
@@ -32,7 +33,7 @@ module _ (ws : List ℕ) where
   abbrev pub Stands : List ℕ → RuleAt → Type 0
   Stands ns r =
       (r .opened + 2 ≤ length ws) × (getD ws (r .opened + 1) 0 ≡ r .owner) × (length (r .sides .left) ≡ getD ns (r .owner) 0)
-      × ((rest : List ℕ) × (drop (r .opened + 2) ws ≡ encodes (r .sides .left) ++ (bytesOf (r .sides .right) ++ rest)))
+      × ((rest : List ℕ) × (drop (r .opened + 2) ws ≡ encodePats (r .sides .left) ++ (encode (r .sides .right) ++ rest)))
 
   abbrev pub Standing : Result Book → Type 0
   Standing (refused r) = r .number ≡ 0 → ⊥
@@ -61,35 +62,35 @@ module _ (ws : List ℕ) where
         (λ e₃. let none = fine .1 (leb-true (s .stage) 1 e) in
         rw back (more (functioned s a) q (rw none tt, λ h. none)))))
 
-    module _ (b : ℕ) (spells : drop p ws ≡ 3 ∷ b ∷ bs) (next-is : q ≡ p + 2) (room : p + 2 ≤ length ws) where
+    module _ (b : ℕ) (spells : drop p ws ≡ 3 ∷ b ∷ bs) (behind-is : q ≡ p + 2) (room : p + 2 ≤ length ws) where
       abbrev made : Bytes.Side → Bytes.Side → RuleAt
       made l r = record { owner = b; opened = p; sides = record { left = patsOf (termsFrom (l .records)); right = nthTerm (termsFrom (r .records)) 0 } }
 
-      made-stands : (l r : Bytes.Side) → Lies (nthArity (s .decls .arities) b) bs (good l) → Wrote 1 (l .rest) (good r) → Stands (s .decls .arities) (made l r)
+      made-stands : (l r : Bytes.Side) → LeftReads (s .decls) (nthArity (s .decls .arities) b) q bs l → RightReads (s .decls) (varsOf (l .seen)) (l .from) (l .rest) r → Stands (s .decls .arities) (made l r)
       made-stands l r h v = (
         room,
         sym (getD-drop p ws 1 0) ∙ ap (λ x. getD x 1 0) spells,
-        h .1 ∙ nth-getD (s .decls .arities) b,
-        (r .rest, ap (λ i. drop i ws) (sym next-is) ∙ sym back ∙ h .0 ∙ ap (λ x. encodes (patsOf (termsFrom (l .records))) ++ x) (one-wrote (l .rest) r v)),
+        h .arguments ∙ nth-getD (s .decls .arities) b,
+        (r .rest, ap (λ i. drop i ws) (sym behind-is) ∙ sym back ∙ h .spelt ∙ ap (λ x. encodePats (patsOf (termsFrom (l .records))) ++ x) (v .spelt)),
       )
 
-      right-stands : (l : Bytes.Side) → Lies (nthArity (s .decls .arities) b) bs (good l) → (from : ℕ) (r : Result Bytes.Side) → Stays (s .decls .exceptions) (s .decls .arities) ws from r → Wrote 1 (l .rest) r
+      right-stands : (l : Bytes.Side) → LeftReads (s .decls) (nthArity (s .decls .arities) b) q bs l → (from : ℕ) (r : Result Bytes.Side) → Stays (s .decls .exceptions) (s .decls .arities) ws from r → Ok (RightReads (s .decls) (varsOf (l .seen)) (l .from) (l .rest)) r
           → Standing (ifGood r (λ r. readRecords f (ruled s (made l r)) (r .from) (r .rest)))
       right-stands l h from (refused r) k v = k
       right-stands l h from (good r) k v =
           rw (k .0) (more (ruled s (made l r)) (r .from) (all-snoc (Stands (s .decls .arities)) (s .rulesAt) (made l r) (fine .0) (made-stands l r h v), λ g. absurd (omega arith)))
 
-      left-stands : (l : Result Bytes.Side) → Lies (nthArity (s .decls .arities) b) bs l → Stays (s .decls .exceptions) (s .decls .arities) ws q l
+      left-stands : (l : Result Bytes.Side) → Ok (LeftReads (s .decls) (nthArity (s .decls .arities) b) q bs) l → Stays (s .decls .exceptions) (s .decls .arities) ws q l
           → Standing (ifGood l (λ l. ifGood (readSide (s .decls) f (onRight (varsOf (l .seen))) 1 0 (l .from) (l .rest)) (λ r. readRecords f (ruled s (made l r)) (r .from) (r .rest))))
       left-stands (refused r) h k = k
       left-stands (good l) h k =
           right-stands l h (l .from) (readSide (s .decls) f (onRight (varsOf (l .seen))) 1 0 (l .from) (l .rest))
           (rw (k .0) (scan-is-side (s .decls .exceptions) (s .decls .arities) ws f (onRight (varsOf (l .seen))) 1 0 (l .from) .1))
-          (side-wrote (s .decls) f (onRight (varsOf (l .seen))) 1 0 (l .from) (l .rest))
+          (right-reads (s .decls) f (varsOf (l .seen)) (l .from) (l .rest))
 
       sides-stand : Standing (readRule f s b p q bs (λ r q′ rest. readRecords f (ruled s r) q′ rest))
       sides-stand =
-          left-stands (readSide (s .decls) f (onLeft []) (nthArity (s .decls .arities) b) 1 q bs) (left-lies (s .decls) f [] (nthArity (s .decls .arities) b) 1 q bs)
+          left-stands (readSide (s .decls) f (onLeft []) (nthArity (s .decls .arities) b) 1 q bs) (left-reads (s .decls) f (nthArity (s .decls .arities) b) q bs)
           (rw back (scan-is-side (s .decls .exceptions) (s .decls .arities) ws f (onLeft []) (nthArity (s .decls .arities) b) 1 q .1))
 
     rule-stands : (b : ℕ) → drop p ws ≡ 3 ∷ b ∷ bs → q ≡ p + 2 → p + 2 ≤ length ws
@@ -100,7 +101,7 @@ module _ (ws : List ℕ) where
     end-stands : Standing (choose (eqb (length bs) 0) (λ u. good s) (λ u. refuse 11 q))
     end-stands = choose-stands (eqb (length bs) 0) _ _ (λ e. fine .0) (λ e. omega arith)
 
-  on-stands : (f : ℕ) → ((s : Book) (p : ℕ) → Fine s → Standing (readRecords f s p (drop p ws))) → (s : Book) → Fine s → (p : ℕ) (o : NextRecord) → Behind (drop p ws) o → Spelt (drop p ws) o → Standing (readTopRecord f (readRecords f) s p o)
+  on-stands : (f : ℕ) → ((s : Book) (p : ℕ) → Fine s → Standing (readRecords f s p (drop p ws))) → (s : Book) → Fine s → (p : ℕ) (o : NextRecord) → Behind (drop p ws) o → IsNext (drop p ws) o → Standing (readTopRecord f (readRecords f) s p o)
   on-stands f more s fine p noneLeft b l = omega arith
   on-stands f more s fine p cutShort b l = omega arith
   on-stands f more s fine p (nextIs k x c i bs) b l =
@@ -108,14 +109,13 @@ module _ (ws : List ℕ) where
       choose-stands (eqb k 1) _ _ (λ u. exception-stands f more s fine p (p + i) bs back x)
       (λ u. choose-stands (eqb k 2) _ _ (λ u. function-stands f more s fine p (p + i) bs back x c)
       (λ u. choose-stands (eqb k 3) _ _
-      (λ u. let e = eqb-true k 3 u in
-      let w = l .1 (rw e refl) in
-      rule-stands f more s fine p (p + i) bs back x (w .0 ∙ ap (λ j. j ∷ x ∷ bs) e) (ap (λ j. p + j) (w .1)) (omega (arith, b .2, w .1, length-drop p ws)))
+      (λ u. let w = of-kind 3 k x c i (drop p ws) bs (true→T (eqb k 3) u) l in
+      rule-stands f more s fine p (p + i) bs back x (w .0) (ap (λ j. p + j) (w .1)) (omega (arith, b .2, w .1, length-drop p ws)))
       (λ u. choose-stands (eqb k 4) _ _ (λ u. end-stands f more s fine p (p + i) bs back) (λ u. omega arith))))
 
   top-stands : (f : ℕ) (s : Book) (p : ℕ) → Fine s → Standing (readRecords f s p (drop p ws))
   top-stands zero s p fine = omega arith
-  top-stands (suc f) s p fine = on-stands f (λ s′ p′ h. top-stands f s′ p′ h) s fine p (nextRecord (drop p ws)) (behind (drop p ws)) (spelt (drop p ws))
+  top-stands (suc f) s p fine = on-stands f (λ s′ p′ h. top-stands f s′ p′ h) s fine p (nextRecord (drop p ws)) (behind (drop p ws)) (next-is (drop p ws))
 
   pub all-stand : Standing (readRecords (suc (length ws)) emptyBook 0 ws)
   all-stand = top-stands (suc (length ws)) emptyBook 0 (tt, λ h. refl)

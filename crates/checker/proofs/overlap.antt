@@ -1,5 +1,4 @@
 -- The laws of refusal 10: on bytes, on patterns, and that it is the theory's.
 pub mod Laws
 pub mod Encode
-pub mod Lefts
 pub mod Theory

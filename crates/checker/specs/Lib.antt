@@ -5,4 +5,3 @@ pub mod Side
 pub mod Declarations
 pub mod Program
 pub mod Overlap
-pub mod Written

@@ -25,6 +25,7 @@ pub mod Sound
 pub mod Agree
 pub mod Demand3
 -- bytes
+pub mod RecordRead
 pub mod Checked
 pub mod Accepted
 pub mod RecordsOfTerms

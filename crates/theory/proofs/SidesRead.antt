@@ -13,6 +13,7 @@ use Rattle.theory.specs.Proper.{Distinct, AllIn, patVars, patsVars, term
 use Rattle.theory.specs.Bytes.{TermRecord, constantRecord, succRecord, ifRecord, variableRecord, raiseRecord, handleRecord, callRecord, recordParts, recordWords, nthTerm, termsFrom, NextRecord, noneLeft, cutShort, nextIs, bodyLength, withBody, nextRecord, Result, refused, good, refuse, ifGood, Declared, nthArity, orRefuse4, termRecord, Where, onLeft, onRight, inQuestion, allowed, ceiling, Side, addRecord, readTermRecord, readSide, patsOf, varsOf}
 use Rattle.theory.specs.Encoding.{callBytes, encode, encodes, encodePats, termWords, termsWords, patsWords, OverDeclared, AllOverDeclared, Each}
 use Rattle.theory.proofs.Tests.{leb-true, leb-false, ne-of-eqb, eqb-false}
+use Rattle.theory.proofs.RecordRead.{RecordRead, record-read}
 use Rattle.theory.proofs.Accepted.{Ok, choose-ok, also-ok, TokOk, AllTok, Balanced, SideOk, side-ok, build-many, build-ok}
 use Rattle.theory.proofs.RecordsOfTerms.{bytesTok, bytesToks, wordsToks, varsToks, flats, flats-bytes, flats-words, flats-vars, flats-ok, flats-due, flats-build, build-flats, termOf, termsOf, pats-many, pats-bytes, pats-words, pats-vars, AllLeft, left-pats, pats-left}
 
@@ -51,14 +52,6 @@ next-is (k ∷ bs) = bodied-is k (bodyLength k) bs refl
 pub of-kind : (v k b c n : ℕ) (bs rest : List ℕ) → T (eqb k v) → Spelt bs k b c n rest → Spelt bs v b c n rest
 of-kind v k b c n bs rest t h = subst (λ (i : ℕ). Spelt bs i b c n rest) (eqb→eq k v t) h
 
-pick-told : {A : Type 0} (Q : A → Type 0) (b : Bool) (x y : Result A) → (T b → Ok Q x) → Ok Q y → Ok Q (pick b x y)
-pick-told Q true x y h k = h tt
-pick-told Q false x y h k = k
-
-four-told : (Q : TermRecord → Type 0) (b : Bool) (t : TermRecord) (p : ℕ) → (T b → Q t) → Ok Q (orRefuse4 b t p)
-four-told Q true t p h = h tt
-four-told Q false t p h = tt
-
 pub low-call : (b : ℕ) → b ≤ lastCalled → callBytes b ≡ 0x18 ∷ b ∷ []
 low-call b h = ap (λ (x : Bool). pick x (0x18 ∷ b ∷ []) (0x19 ∷ (b - 16) ∷ [])) (leb-true (suc b) 16 (omega (arith, h)))
 
@@ -72,23 +65,29 @@ abbrev IsTok : List ℕ → ℕ → List ℕ → TermRecord → Type 0
 IsTok bs n rest t = (bs ≡ bytesTok t ++ rest) × (n ≡ length (bytesTok t))
 
 tok-is : (D : Declared) (p k b c n : ℕ) (bs rest : List ℕ) → Spelt bs k b c n rest → Ok (IsTok bs n rest) (termRecord D p k b)
-tok-is D p k b c n bs rest h =
-    told 0x10 _ _ (λ s. s) (told 0x11 _ _ (λ s. s) (told 0x12 _ _ (λ s. s) (told 0x13 _ _ (λ s. s)
-    (told 0x14 _ _ (λ s. four-told Q (leb b 7) (variableRecord b) p (λ l. s))
-    (told 0x15 _ _ (λ s. four-told Q (ltb b (D .exceptions)) (raiseRecord b) p (λ l. s))
-    (told 0x16 _ _ (λ s. four-told Q (ltb b (D .exceptions)) (handleRecord b) p (λ l. s))
-    (told 0x17 _ _ (λ s. s)
-    (told 0x18 _ _ (λ s. four-told Q (leb b lastCalled) (callRecord b (nthFun builtinFuns b .arity)) p (λ l. called 0x18 b s (low-call b (leb→le b lastCalled l))))
-    (told 0x19 _ _ (λ s. four-told Q (ltb b (length (D .arities))) (callRecord (16 + b) (nthArity (D .arities) b)) p (λ l. called 0x19 (16 + b) s (high-call b))) tt)))))))))
+tok-is D p k b c n bs rest h = is (termRecord D p k b) (record-read D p k b)
   where
-    Q : TermRecord → Type 0
-    Q = IsTok bs n rest
+    of : (v : ℕ) → k ≡ v → Spelt bs v b c n rest
+    of v e = subst (λ (i : ℕ). Spelt bs i b c n rest) e h
 
-    told : (v : ℕ) (x y : Result TermRecord) → (Spelt bs v b c n rest → Ok Q x) → Ok Q y → Ok Q (pick (eqb k v) x y)
-    told v x y f g = pick-told Q (eqb k v) x y (λ t. f (of-kind v k b c n bs rest t h)) g
+    with : (v x : ℕ) → b ≡ x → (bs ≡ v ∷ b ∷ rest) × (n ≡ 2) → (bs ≡ v ∷ x ∷ rest) × (n ≡ 2)
+    with v x e s = (s .0 ∙ ap (λ (i : ℕ). v ∷ i ∷ rest) e, s .1)
 
     called : (v k′ : ℕ) → (bs ≡ v ∷ b ∷ rest) × (n ≡ 2) → callBytes k′ ≡ v ∷ b ∷ [] → (bs ≡ callBytes k′ ++ rest) × (n ≡ length (callBytes k′))
     called v k′ s e = (s .0 ∙ ap (_++ rest) (sym e), s .1 ∙ ap length (sym e))
+
+    is : (r : Result TermRecord) → RecordRead D p k b r → Ok (IsTok bs n rest) r
+    is (refused r) e = tt
+    is (good (constantRecord zeroB)) e = of 0x10 e
+    is (good (constantRecord trueB)) e = of 0x12 e
+    is (good (constantRecord falseB)) e = of 0x13 e
+    is (good succRecord) e = of 0x11 e
+    is (good ifRecord) e = of 0x17 e
+    is (good (variableRecord x)) e = with 0x14 x (e .1) (of 0x14 (e .0))
+    is (good (raiseRecord x)) e = with 0x15 x (e .1) (of 0x15 (e .0))
+    is (good (handleRecord x)) e = with 0x16 x (e .1) (of 0x16 (e .0))
+    is (good (callRecord f m)) (inl e) = called 0x18 f (of 0x18 (e .0)) (low-call f (e .2) ∙ ap (λ (i : ℕ). 0x18 ∷ i ∷ []) (sym (e .1)))
+    is (good (callRecord f m)) (inr e) = called 0x19 f (of 0x19 (e .0)) (ap callBytes (e .1) ∙ high-call b)
 
 -- and those bytes are read as that record
 four-true : (b : Bool) (t : TermRecord) (p : ℕ) → b ≡ true → orRefuse4 b t p ≡ good t

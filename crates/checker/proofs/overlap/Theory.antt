@@ -14,7 +14,7 @@ use Rattle.checker.specs.declared.overlap.Overlap.{Overlap}
 use Rattle.checker.specs.declared.overlap.Overlap.the-variants.{At, Nowhere}
 use Rattle.theory.specs.Bytes.{openedAt}
 use Rattle.checker.specs.Overlap.{clashAt, anyClash, firstClash}
-use Rattle.checker.specs.Written.{bytesOf}
+use Rattle.theory.specs.Encoding.{encode}
 use Rattle.checker.proofs.overlap.Laws.{clash-other, clash-same}
 use Rattle.checker.proofs.overlap.Encode.{args-are}
 use Rattle.checker.proofs.Rules.{All, all-snoc, Stands}
@@ -35,7 +35,7 @@ module _ (ws ns : List ℕ) where
       by-owner true e =
           let o = eqb-true (q .owner) (r .owner) e in
           clash-same ws ns (q .opened) (r .opened) (omega (arith, h .0)) (omega (arith, k .0)) (h .1 ∙ o ∙ sym (k .1))
-          ∙ args-are ws (q .sides .left) (r .sides .left) (getD ns (getD ws (r .opened + 1) 0) 0) (q .opened + 2) (r .opened + 2) (bytesOf (q .sides .right) ++ h .3 .0) (bytesOf (r .sides .right) ++ k .3 .0)
+          ∙ args-are ws (q .sides .left) (r .sides .left) (getD ns (getD ws (r .opened + 1) 0) 0) (q .opened + 2) (r .opened + 2) (encode (q .sides .right) ++ h .3 .0) (encode (r .sides .right) ++ k .3 .0)
           (h .2 ∙ ap (λ i. getD ns i 0) (o ∙ sym (k .1))) (k .2 ∙ ap (λ i. getD ns i 0) (sym (k .1))) (h .3 .1) (k .3 .1)
       by-owner false e =
           clash-other ws ns (q .opened) (r .opened) (omega (arith, h .0)) (omega (arith, k .0)) (λ g. eqb-false (q .owner) (r .owner) e (sym (h .1) ∙ g ∙ k .1))

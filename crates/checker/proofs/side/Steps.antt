@@ -1,20 +1,19 @@
 -- The laws of one step over a term's record, by where the term stands.
-use Prim.Native.Nat.{ℕ, _+_, _*_, _≤_, _<_}
+use Prim.Native.Nat.{ℕ, _*_, _≤_, _<_}
 use mathlib.Core.Path.{_≡_, refl, sym, ap, _∙_}
 use mathlib.Core.Bool.{Bool, true, false}
 use mathlib.Core.List.{List}
 use native.Mathlib.Omega.{arith}
-use lib.Dec.{eqb, leb, ltb}
-use lib.ListN.{length, getD, set}
-use borrow.Author.Tests.{le-leb, lt-leb, ne-eqb}
-use Rattle.theory.specs.Builtins.{lastCalled}
-use Rattle.theory.specs.Syntax.{pick}
-use Rattle.theory.specs.Bytes.{TermRecord, constantRecord, succRecord, ifRecord, variableRecord, raiseRecord, handleRecord, callRecord, Result, refused, good, orRefuse4}
+use lib.ListN.{getD, set}
+use borrow.Author.Tests.{le-leb, lt-leb}
+use Rattle.theory.specs.Bytes.{TermRecord, constantRecord, succRecord, ifRecord, variableRecord, raiseRecord, handleRecord, callRecord, Result, refused, good, termRecord}
+use Rattle.theory.proofs.RecordRead.{RecordRead, record-read}
 use Rattle.checker.specs.declared.side.Stand.{Stand}
 use Rattle.checker.specs.declared.side.Stand.the-variants.{Left, Right, Asked}
 use Rattle.checker.specs.declared.node.Node.{Node}
 use Rattle.checker.specs.declared.node.Node.the-variants.{Refused, Leaf, Succ, Inner}
 use Rattle.checker.specs.declared.side.Step.{Step}
+use Rattle.checker.specs.Answer.{declared}
 use Rattle.checker.specs.Node.{tokAt, varAt, nodeOf, SmallNode}
 use Rattle.checker.specs.Side.{SmallStep, stopped, passed, taken, admitted, stepOf}
 
@@ -95,22 +94,20 @@ over-node Asked s (good (raiseRecord e)) v = refl
 over-node Asked s (good (handleRecord e)) v = refl
 over-node Asked s (good (callRecord k n)) v = refl
 
-pick-not : (b : Bool) (x y : Result TermRecord) → NotVar x → NotVar y → NotVar (pick b x y)
-pick-not true x y h k = h
-pick-not false x y h k = k
-
-four-not : (b : Bool) (t : TermRecord) (p : ℕ) → NotVar (good t) → NotVar (orRefuse4 b t p)
-four-not true t p h = h
-four-not false t p h = tt
-
 -- no kind but 14 is a variable's
 no-var : (n : ℕ) (ns : List ℕ) (p k b : ℕ) → (k ≡ 0x14 → ⊥) → NotVar (tokAt n ns p k b)
 unfolding tokAt
-no-var n ns p k b h =
-    rw (ne-eqb k 0x14 h)
-    (pick-not (eqb k 0x10) _ _ tt (pick-not (eqb k 0x11) _ _ tt (pick-not (eqb k 0x12) _ _ tt (pick-not (eqb k 0x13) _ _ tt
-    (pick-not (eqb k 0x15) _ _ (four-not (ltb b n) (raiseRecord b) p tt) (pick-not (eqb k 0x16) _ _ (four-not (ltb b n) (handleRecord b) p tt) (pick-not (eqb k 0x17) _ _ tt
-    (pick-not (eqb k 0x18) _ _ (four-not (leb b lastCalled) (callRecord b _) p tt) (pick-not (eqb k 0x19) _ _ (four-not (ltb b (length ns)) (callRecord (16 + b) _) p tt) tt)))))))))
+no-var n ns p k b h = by (termRecord (declared n ns) p k b) (record-read (declared n ns) p k b)
+  where
+    by : (r : Result TermRecord) → RecordRead (declared n ns) p k b r → NotVar r
+    by (refused r) e = tt
+    by (good (constantRecord c)) e = tt
+    by (good succRecord) e = tt
+    by (good ifRecord) e = tt
+    by (good (variableRecord x)) e = h (e .0)
+    by (good (raiseRecord x)) e = tt
+    by (good (handleRecord x)) e = tt
+    by (good (callRecord f n)) e = tt
 
 module _ (m : Stand) (s : List Bool) (n : ℕ) (ns : List ℕ) (p k b : ℕ) (o : Node) (other : k ≡ 0x14 → ⊥) (read : o ≡ nodeOf (tokAt n ns p k b)) where
   over-other : (q : Node) → o ≡ q → overNode m s q ≡ stepOf m s (tokAt n ns p k b)

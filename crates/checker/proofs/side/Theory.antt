@@ -1,17 +1,18 @@
 -- The scan of a side is the theory's `side`.
 use Prim.Native.Nat.{ℕ, zero, suc, _+_, _≤_}
 use mathlib.Core.Path.{_≡_, refl, _∙_}
+use mathlib.Core.Logic.{inl, inr}
 use mathlib.Core.Bool.{Bool, true, false}
 use mathlib.Core.List.{List, _∷_}
 use native.Mathlib.Omega.{arith}
-use lib.Dec.{eqb, leb, ltb}
-use lib.ListN.{length, getD, drop, set}
+use lib.Dec.{leb}
+use lib.ListN.{getD, drop, set}
 use lib.Seq.{drop-drop}
-use borrow.Author.Tests.{ne-eqb, leb-true}
-use Rattle.theory.specs.Builtins.{lastCalled}
+use borrow.Author.Tests.{ne-eqb}
 use Rattle.theory.specs.Syntax.{elem, pick, choose}
-use Rattle.theory.specs.Bytes.{TermRecord, constantRecord, succRecord, ifRecord, variableRecord, raiseRecord, handleRecord, callRecord, recordParts, recordWords, NextRecord, noneLeft, cutShort, nextIs, nextRecord, Result, refused, good, refuse, ifGood, orRefuse4, Where, onLeft, onRight, inQuestion, allowed, ceiling, addRecord, readTermRecord, readSide}
+use Rattle.theory.specs.Bytes.{TermRecord, constantRecord, succRecord, ifRecord, variableRecord, raiseRecord, handleRecord, callRecord, recordParts, recordWords, NextRecord, noneLeft, cutShort, nextIs, nextRecord, Result, refused, good, refuse, ifGood, termRecord, Where, onLeft, onRight, inQuestion, allowed, ceiling, addRecord, readTermRecord, readSide}
 use Rattle.theory.specs.Bytes
+use Rattle.theory.proofs.RecordRead.{RecordRead, record-read}
 use Rattle.checker.specs.declared.side.Step.{Step}
 use Rattle.checker.specs.declared.side.Side.{Side}
 use Rattle.checker.specs.Answer.{declared}
@@ -54,21 +55,20 @@ Marked p (good (raiseRecord e)) = Unit {0}
 Marked p (good (handleRecord e)) = Unit {0}
 Marked p (good (callRecord k n)) = Unit {0}
 
-pick-marked : (p : ℕ) (b : Bool) (x y : Result TermRecord) → Marked p x → Marked p y → Marked p (pick b x y)
-pick-marked p true x y h k = h
-pick-marked p false x y h k = k
-
-four-marked : (p : ℕ) (b : Bool) (t : TermRecord) → (b ≡ true → Marked p (good t)) → Marked p (orRefuse4 b t p)
-four-marked p true t h = h refl
-four-marked p false t h = (refl, omega arith)
-
 tok-marked : (n : ℕ) (ns : List ℕ) (p k b : ℕ) → Marked p (tokAt n ns p k b)
 unfolding tokAt
-tok-marked n ns p k b =
-    pick-marked p (eqb k 0x10) _ _ tt (pick-marked p (eqb k 0x11) _ _ tt (pick-marked p (eqb k 0x12) _ _ tt (pick-marked p (eqb k 0x13) _ _ tt
-    (pick-marked p (eqb k 0x14) _ _ (four-marked p (leb b 7) (variableRecord b) (λ e. leb-true b 7 e))
-    (pick-marked p (eqb k 0x15) _ _ (four-marked p (ltb b n) (raiseRecord b) (λ e. tt)) (pick-marked p (eqb k 0x16) _ _ (four-marked p (ltb b n) (handleRecord b) (λ e. tt)) (pick-marked p (eqb k 0x17) _ _ tt
-    (pick-marked p (eqb k 0x18) _ _ (four-marked p (leb b lastCalled) (callRecord b _) (λ e. tt)) (pick-marked p (eqb k 0x19) _ _ (four-marked p (ltb b (length ns)) (callRecord (16 + b) _) (λ e. tt)) (refl, omega arith))))))))))
+tok-marked n ns p k b = by (termRecord (declared n ns) p k b) (record-read (declared n ns) p k b)
+  where
+    by : (r : Result TermRecord) → RecordRead (declared n ns) p k b r → Marked p r
+    by (refused r) (at, inl e) = (at, λ z. omega (arith, e, z))
+    by (refused r) (at, inr e) = (at, λ z. omega (arith, e, z))
+    by (good (constantRecord c)) e = tt
+    by (good succRecord) e = tt
+    by (good ifRecord) e = tt
+    by (good (variableRecord x)) e = e .2
+    by (good (raiseRecord x)) e = tt
+    by (good (handleRecord x)) e = tt
+    by (good (callRecord f n)) e = tt
 
 -- what the theory allows is what the step takes
 abbrev Allows : Where → ℕ → TermRecord → Result Where → Step → Type 0
