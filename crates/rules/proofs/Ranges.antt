@@ -217,17 +217,17 @@ module _ (fs : List Fun) (small : (k : ℕ) → funOf fs k .arity ≤ 4) where
 
   -- a built-in function's own rules, in the standing list
   pub standing-range : (k : ℕ) → k < 16 → partFor (aux k (suc (funOf fs k .arity))) (storedRules (standing (funOf fs))) ≡ storedRules (ownRules k (funOf fs k .arity) (funOf fs k .defs))
-  standing-range k h = go (ltb k 6) refl
+  standing-range k h = go (ltb k (length builtinFuns)) refl
     where
       lead : Apart (aux k (suc (funOf fs k .arity))) commonRules
       lead = common-apart (aux k (suc (funOf fs k .arity))) (omega arith)
 
-      go : (b : Bool) → ltb k 6 ≡ b → partFor (aux k (suc (funOf fs k .arity))) (storedRules (standing (funOf fs))) ≡ storedRules (ownRules k (funOf fs k .arity) (funOf fs k .defs))
-      go true e = let l = ltb-true k 6 e in range-in (funOf fs) small k (omega arith) commonRules lead 0 6 (omega arith) (omega arith)
+      go : (b : Bool) → ltb k (length builtinFuns) ≡ b → partFor (aux k (suc (funOf fs k .arity))) (storedRules (standing (funOf fs))) ≡ storedRules (ownRules k (funOf fs k .arity) (funOf fs k .defs))
+      go true e = range-in (funOf fs) small k (omega arith) commonRules lead 0 (length builtinFuns) (omega arith) (ltb-true k (length builtinFuns) e)
       go false e =
-          let l = ltb-false k 6 e in
+          let l = ltb-false k (length builtinFuns) e in
           let f : funOf fs k ≡ function 0 [] = ap (λ (b : Bool). pick b (nthFun builtinFuns k) (nthFun fs (k - 16))) (lt-ltb k 16 h) ∙ nth-past builtinFuns k l in
-          range-out (funOf fs) small k (omega arith) commonRules lead 0 6 (omega arith) ∙ none k f
+          range-out (funOf fs) small k (omega arith) commonRules lead 0 (length builtinFuns) l ∙ none k f
 
   -- any other function's own rules, in the program's own list
   pub own-range : (n k : ℕ) → 16 ≤ k → k < 48 → partFor (aux k (suc (funOf fs k .arity))) (storedRules (ownList (program n fs))) ≡ storedRules (ownRules k (funOf fs k .arity) (funOf fs k .defs))

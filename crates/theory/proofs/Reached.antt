@@ -1,14 +1,15 @@
 -- THE BUILT-IN FUNCTIONS, ANSWERED: = about every pair of values (document 02, Q-2), in every accepted program: from some
 -- number of levels on the evaluation ends so, and neither call ever answers otherwise.
 use Prim.Native.Nat.{ℕ}
-use mathlib.Core.Path.{_≡_}
-use mathlib.Core.List.{List}
-use Rattle.theory.specs.Syntax.{Val, base, up, Fun, Program, Bindings, nothingBound}
-use Rattle.theory.specs.Evaluation.{Outcome, normal, Ev, succ-normal, constant, no-arguments, rest-normal}
+use mathlib.Core.Path.{_≡_, sym, subst}
+use mathlib.Core.Logic.{_↔_}
+use mathlib.Core.List.{List, [], _∷_}
+use Rattle.theory.specs.Syntax.{Val, base, up, Terms, call, Fun, Program, Bindings, nothingBound}
+use Rattle.theory.specs.Evaluation.{Outcome, normal, normals, Ev, EvArgs, succ-normal, constant, no-arguments, rest-normal}
 use Rattle.theory.specs.Bytes.{good, Book, funsOf, readProgram, programOf, readQuestion}
 use Rattle.theory.specs.Demands.{OnlyAnswers}
 use Rattle.theory.specs.Arithmetic.{Gives, written, asked, Reached, equality}
-use Rattle.theory.proofs.PaperEvaluation.{paper-is-answered}
+use Rattle.theory.proofs.PaperEvaluation.{paper-is-answered, paper-unique}
 use Rattle.theory.proofs.AcceptedProper.{accepted-proper}
 use Rattle.theory.proofs.PaperAnswered.{only-answers}
 use Rattle.theory.proofs.Equality.{equal-gives}
@@ -35,7 +36,14 @@ module _ (p : List ℕ) (s : Book) (ep : readProgram p ≡ good s) where
   abbrev e : ℕ
   e = s .decls .exceptions
 
-  -- Q-2
+  -- Q-2: = on two values has just this outcome;
+  pub equal-exactly : (θ : Bindings) (ts : Terms) (v w : Val) → EvArgs (programOf s) θ ts (normals (v ∷ w ∷ [])) → (m : Outcome)
+      → Ev (programOf s) θ (call 5 ts) m ↔ (m ≡ equality v w)
+  equal-exactly θ ts v w h m =
+      let given = equal-gives e fs v w θ ts h in
+      (λ x. paper-unique (programOf s) (accepted-proper p s ep) x given, λ k. subst (Ev (programOf s) θ (call 5 ts)) (sym k) given)
+
+  -- with levels enough the evaluation of the question reaches it, and the calls answer nothing else
   pub equal-reached : (v w : Val) → Reached (programOf s) 5 v w (equality v w)
   equal-reached v w = given-is-reached 5 v w (equality v w) (equal-gives e fs v w)
 

@@ -10,10 +10,13 @@ use Rattle.theory.specs.Builtins.{call2}
 use Rattle.theory.specs.Evaluation.{Outcome, normal, other, normals, Ev, EvArgs, outcomeOf}
 use Rattle.theory.specs.Cost.{eval}
 
--- the number n, and a test's answer, as values
+-- succ n times over a value; the number n, and a test's answer, as values
+abbrev pub ups : ℕ → Val → Val
+ups zero v = v
+ups (suc n) v = up (ups n v)
+
 abbrev pub num : ℕ → Val
-num zero = base zeroB
-num (suc n) = up (num n)
+num n = ups n (base zeroB)
 
 abbrev pub flag : Bool → Val
 flag true = base trueB
@@ -35,8 +38,8 @@ asked k v w = call2 k (written v) (written w)
 abbrev pub Reached : Program → ℕ → Val → Val → Outcome → Type 0
 Reached P k v w m = (L : ℕ) × ((L′ : ℕ) → L ≤ L′ → outcomeOf (eval P L′ nothingBound (asked k v w) .ending) ≡ some m)
 
--- Q-2: = on every pair of values, each k times succ over a constant. With the same k the constants decide: "a number against a flag stays stuck".
--- With different k it is the constant of the value with fewer succ: 0 is no succ of anything, a flag against succ is stuck.
+-- Q-2: = on every pair of values, each so many times succ over a constant. Where that is as often, the constants decide: "a number against a flag
+-- stays stuck". Where not, the constant of the value with fewer succ does: 0 is no succ of anything, a flag against succ is stuck.
 abbrev pub baseOf : Val → Base
 baseOf (base b) = b
 baseOf (up v) = baseOf v
