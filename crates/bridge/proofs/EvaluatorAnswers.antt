@@ -5,14 +5,14 @@ use mathlib.Core.Bool.{Bool, true, false}
 use mathlib.Core.List.{List}
 use lib.Dec.{eqb, leb}
 use borrow.Author.Tests.{ne-eqb}
-use Rattle.theory.specs.Syntax.{zeroB, trueB, falseB, Val, base, up, height, Term, Program, nothingBound, pick}
+use Rattle.theory.specs.Syntax.{zeroB, trueB, falseB, Val, base, up, height, baseOf, Term, Program, nothingBound, pick}
 use Rattle.theory.specs.Builtins.{program}
 use Rattle.theory.specs.Endings.{Ending, value, raised, stuck, tooDeep, is, outOfSteps, says}
 use Rattle.theory.specs.Cost.{Cost, eval, evaluator}
 use Rattle.theory.specs.Bytes.{programOf}
 use Rattle.evaluator.specs.declared.values.Ending as evaluating
 use Rattle.evaluator.specs.declared.values.Outcome.{Outcome}
-use Rattle.evaluator.specs.Outcomes.{baseWord, root, outcomeOf}
+use Rattle.evaluator.specs.Outcomes.{baseWord, outcomeOf}
 use Rattle.rules.specs.Index.{indexOf}
 use Rattle.evaluator.specs.Evaluation.{evaluated}
 use Rattle.evaluator.proofs.OnBytes.{evaluator-on-bytes}
@@ -38,7 +38,7 @@ pub outcome-by : (o : Outcome) (m : evaluating.Ending) (r : Report) → o .end �
 unfolding outcomeReport
 outcome-by o m r e h = h ∙ sym (ap (λ (x : evaluating.Ending). endReport x (o .steps)) e)
 
-value-word : (v : Val) → wordBase (baseWord (root v)) ≡ baseNumber v
+value-word : (v : Val) → wordBase (baseWord (baseOf v)) ≡ baseNumber v
 unfolding wordBase
 value-word (base zeroB) = refl
 value-word (base trueB) = refl

@@ -10,7 +10,7 @@ use lib.Dec.{eqb, eqb·suc-zero}
 use lib.ListN.{length, getD, set, drop, length-set, length-drop, length-append, getD-replicate}
 use lib.Seq.{getD-set-same, getD-set-other}
 use borrow.Author.Tests.{le-ltb, ne-eqb, eqb-true, eqb-false}
-use Rattle.theory.specs.Syntax.{Base, zeroB, trueB, falseB, Val, base, up, height, Pat, pbase, psucc, pvar, Def, Bindings, bindValue, nothingBound, sameBase, andThen, fit, fits, Found as TheoryFound, found, chosen, pick}
+use Rattle.theory.specs.Syntax.{Base, zeroB, trueB, falseB, Val, base, up, height, baseOf, Pat, pbase, psucc, pvar, Def, Bindings, bindValue, nothingBound, sameBase, andThen, fit, fits, Found as TheoryFound, found, chosen, pick}
 use Rattle.theory.specs.Syntax as theory
 use Rattle.theory.specs.WellFormed.{NarrowPat, NarrowPats}
 use Rattle.theory.specs.Tree.{node, [·], size, sizes, Rule}
@@ -22,7 +22,7 @@ use Rattle.evaluator.specs.declared.values.Value.{Value}
 use Rattle.evaluator.specs.declared.fitting.Found.{Found}
 use Rattle.evaluator.specs.Values.{none, nones}
 use Rattle.evaluator.specs.Fitting.{misfit, fits as fitsTo, fitNode, fitOf, fitThen, fitsOf, orElse, ruleOf, foundFrom}
-use Rattle.evaluator.specs.Outcomes.{baseWord, root, valueOf}
+use Rattle.evaluator.specs.Outcomes.{baseWord, valueOf}
 use Rattle.evaluator.proofs.Fits.{fit-step, found-past, found-step}
 use Rattle.evaluator.proofs.TheoryRows.{fill}
 use Rattle.evaluator.proofs.Among.{StandAll, head-at, tail-at, behind, root-is, var-is, base-is, parts, first, others}
@@ -95,16 +95,16 @@ FoundMeets rs ar f (some g) = (f .ok ≡ true) × Stands rs (f .at) (tree (g .bo
 
 module _ (rs : List ℕ) where
   fit-meets : (p : Pat) (v : Val) (a : ℕ) (b : List Value) (θ : Bindings) → Stands rs a (patT p) → NarrowPat p → Binds b θ
-      → FitMeets (a + size (patT p)) (fitOf rs (baseWord (root v)) (height v) a b) (fit p v θ)
+      → FitMeets (a + size (patT p)) (fitOf rs (baseWord (baseOf v)) (height v) a b) (fit p v θ)
   unfolding fitOf
   fit-meets (pbase c) (base d) a b θ h n s = rw (base-is rs a c h) (base-fit a b θ s c d)
-  fit-meets (pbase c) (up v) a b θ h n s = rw (base-is rs a c h) (base-misfit (height v) (baseWord (root v)) a b _ c)
+  fit-meets (pbase c) (up v) a b θ h n s = rw (base-is rs a c h) (base-misfit (height v) (baseWord (baseOf v)) a b _ c)
   fit-meets (psucc p) (base d) a b θ h n s = rw (root-is rs a 2 _ h)
   fit-meets (psucc p) (up v) a b θ h n s =
       let e : a + 1 + size (patT p) ≡ a + size (patT (psucc p)) = omega arith in
       rw (root-is rs a 2 _ h) (fit-to _ _ _ (fit p v θ) e (fit-meets p v (a + 1) b θ (first rs (a + 1) (patT p) [·] (parts rs a 2 _ h)) n s))
   fit-meets (pvar x) v a b θ h n s =
-      rw (fit-step rs (baseWord (root v)) (height v) a b, var-is rs a x h, node-var (height v) (baseWord (root v)) a b _ x)
+      rw (fit-step rs (baseWord (baseOf v)) (height v) a b, var-is rs a x h, node-var (height v) (baseWord (baseOf v)) a b _ x)
       (refl, refl, binds-set b θ x v n s)
 
   fits-meets : (ps : List Pat) (vs : List Val) (a i : ℕ) (arr b : List Value) (θ : Bindings) → StandAll rs a (patTs ps) → NarrowPats ps → Holds arr i vs → length ps ≡ length vs → Binds b θ
@@ -116,7 +116,7 @@ module _ (rs : List ℕ) where
   fits-meets (p ∷ ps) (v ∷ vs) a i arr b θ h n g e s =
       rw (g .0)
       (by (λ c η k. fits-meets ps vs (a + size (patT p)) (i + 1) arr c η (others rs a (patT p) (patTs ps) h) (n .1) (g .1) (omega (arith, e)) k)
-      (fit p v θ) (fitOf rs (baseWord (root v)) (height v) a b) (fit-meets p v a b θ (first rs a (patT p) (patTs ps) h) (n .0) s))
+      (fit p v θ) (fitOf rs (baseWord (baseOf v)) (height v) a b) (fit-meets p v a b θ (first rs a (patT p) (patTs ps) h) (n .0) s))
     where
       by : ((c : List Value) (η : Bindings) → Binds c η → FitMeets (a + size (patT p) + sizes (patTs ps)) (fitsOf rs (length ps) (a + size (patT p)) (i + 1) arr c) (fits ps vs η))
           → (o : Option Bindings) (f : Found) → FitMeets (a + size (patT p)) f o

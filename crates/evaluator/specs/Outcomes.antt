@@ -1,24 +1,20 @@
 -- The theory's answers as the code gives them: for each ending, its case, and k and base of a value, the exception, or s.
 use Prim.Native.Nat.{ℕ}
-use Rattle.theory.specs.Syntax.{Base, zeroB, trueB, falseB, Val, base, up, height}
+use Rattle.theory.specs.Syntax.{Base, zeroB, trueB, falseB, Val, height, baseOf}
 use Rattle.theory.specs.Endings.{Ending as TheoryEnding, value, raised, stuck, tooDeep, Said, is, outOfSteps, tooBig, Answer as TheoryAnswer}
 use Rattle.evaluator.specs.declared.values.Value.{Value}
 use Rattle.evaluator.specs.declared.values.Ending.{Ending}
 use Rattle.evaluator.specs.declared.values.Ending.the-variants.{Done, Raised, Stuck, Out, Deep}
 use Rattle.evaluator.specs.declared.values.Outcome.{Outcome}
 
--- a constant's word, and the constant of a value
+-- a constant's word, and a value
 abbrev pub baseWord : Base → ℕ
 baseWord zeroB = 1
 baseWord trueB = 3
 baseWord falseB = 4
 
-abbrev pub root : Val → Base
-root (base b) = b
-root (up v) = root v
-
 abbrev pub valueOf : Val → Value
-valueOf v = record { succs = height v; base = baseWord (root v) }
+valueOf v = record { succs = height v; base = baseWord (baseOf v) }
 
 abbrev pub endingOf : TheoryEnding → Ending
 endingOf (value v) = Done (valueOf v)

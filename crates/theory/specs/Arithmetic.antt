@@ -5,7 +5,7 @@ use mathlib.Core.Bool.{Bool, true, false}
 use mathlib.Core.List.{[], _∷_}
 use mathlib.Core.Option.{some}
 use lib.Dec.{eqb, ltb}
-use Rattle.theory.specs.Syntax.{Base, zeroB, trueB, falseB, Val, base, up, height, Term, const, succ, Terms, call, Program, Bindings, nothingBound, pick}
+use Rattle.theory.specs.Syntax.{Base, zeroB, trueB, falseB, Val, base, up, height, baseOf, Term, const, succ, Terms, call, Program, Bindings, nothingBound, pick}
 use Rattle.theory.specs.Builtins.{call2}
 use Rattle.theory.specs.Evaluation.{Outcome, normal, other, normals, Ev, EvArgs, outcomeOf}
 use Rattle.theory.specs.Cost.{eval}
@@ -40,10 +40,6 @@ Reached P k v w m = (L : ℕ) × ((L′ : ℕ) → L ≤ L′ → outcomeOf (eva
 
 -- Q-2: = on every pair of values, each so many times succ over a constant. Where that is as often, the constants decide: "a number against a flag
 -- stays stuck". Where not, the constant of the value with fewer succ does: 0 is no succ of anything, a flag against succ is stuck.
-abbrev pub baseOf : Val → Base
-baseOf (base b) = b
-baseOf (up v) = baseOf v
-
 abbrev pub equalBases : Base → Base → Outcome
 equalBases zeroB zeroB = normal (flag true)
 equalBases zeroB trueB = other

@@ -15,10 +15,14 @@ pub data Val : Type 0 where
   base : Base → Val
   up : Val → Val
 
--- how often succ stands in a value: the k of the step table
+-- how often succ stands in a value, the k of the step table; and over which constant
 abbrev pub height : Val → ℕ
 height (base b) = 0
 height (up v) = suc (height v)
+
+abbrev pub baseOf : Val → Base
+baseOf (base b) = b
+baseOf (up v) = baseOf v
 
 -- A term. Function k: built-in b is k = b, declared f is k = 16 + f.
 mutual
