@@ -9,24 +9,16 @@ use lib.ListN.{length, getD, drop, length-drop}
 use lib.Seq.{drop-drop, getD-drop}
 use borrow.Author.Tests.{eqb-true, leb-true}
 use Rattle.theory.specs.Syntax.{choose}
-use Rattle.theory.specs.Bytes.{NextRecord, noneLeft, cutShort, nextIs, nextRecord, Result, refused, good, refuse, ifGood, nthArity, onLeft, onRight, varsOf, readSide, RuleAt, patsOf, termsFrom, nthTerm, Book, addLast, orRefuse, readRule, readTopRecord, readRecords, emptyBook}
+use Rattle.theory.specs.Bytes.{NextRecord, noneLeft, cutShort, nextIs, nextRecord, Result, refused, good, refuse, ifGood, nthArity, onLeft, onRight, varsOf, readSide, RuleAt, patsOf, termsFrom, nthTerm, Book, orRefuse, readRule, readTopRecord, readRecords, emptyBook}
 use Rattle.theory.specs.Bytes
-use Rattle.theory.specs.Encoding.{encode, encodePats}
-use Rattle.theory.proofs.Tests.{true→T}
+use Rattle.theory.specs.Encoding.{encode, encodePats, Each}
 use Rattle.theory.proofs.Accepted.{Ok}
+use Rattle.theory.proofs.AcceptedExactly.{each-snoc}
 use Rattle.theory.proofs.SidesRead.{IsNext, next-is, of-kind, LeftReads, RightReads, left-reads, right-reads}
 use Rattle.record.proofs.Laws.{Behind, behind}
 use Rattle.checker.proofs.node.Laws.{nth-getD}
 use Rattle.checker.proofs.side.Theory.{Stays, scan-is-side}
 use Rattle.checker.proofs.program.Theory.{excepted, functioned, ruled}
-
-abbrev pub All : (RuleAt → Type 0) → List RuleAt → Type 0
-All P [] = Unit {0}
-All P (r ∷ rs) = P r × All P rs
-
-pub all-snoc : (P : RuleAt → Type 0) (rs : List RuleAt) (r : RuleAt) → All P rs → P r → All P (addLast rs r)
-all-snoc P [] r h k = (k, tt)
-all-snoc P (q ∷ qs) r h k = (h .0, all-snoc P qs r (h .1) k)
 
 module _ (ws : List ℕ) where
   -- a rule's opening, its function, its arguments and its right side
@@ -37,10 +29,10 @@ module _ (ws : List ℕ) where
 
   abbrev pub Standing : Result Book → Type 0
   Standing (refused r) = r .number ≡ 0 → ⊥
-  Standing (good s) = All (Stands (s .decls .arities)) (s .rulesAt)
+  Standing (good s) = Each (Stands (s .decls .arities)) (s .rulesAt)
 
   abbrev Fine : Book → Type 0
-  Fine s = All (Stands (s .decls .arities)) (s .rulesAt) × (s .stage ≤ 1 → s .rulesAt ≡ [])
+  Fine s = Each (Stands (s .decls .arities)) (s .rulesAt) × (s .stage ≤ 1 → s .rulesAt ≡ [])
 
   choose-stands : (b : Bool) (x y : Unit {0} → Result Book) → (b ≡ true → Standing (x tt)) → (b ≡ false → Standing (y tt)) → Standing (choose b x y)
   choose-stands true x y h k = h refl
@@ -78,7 +70,7 @@ module _ (ws : List ℕ) where
           → Standing (ifGood r (λ r. readRecords f (ruled s (made l r)) (r .from) (r .rest)))
       right-stands l h from (refused r) k v = k
       right-stands l h from (good r) k v =
-          rw (k .0) (more (ruled s (made l r)) (r .from) (all-snoc (Stands (s .decls .arities)) (s .rulesAt) (made l r) (fine .0) (made-stands l r h v), λ g. absurd (omega arith)))
+          rw (k .0) (more (ruled s (made l r)) (r .from) (each-snoc (Stands (s .decls .arities)) (s .rulesAt) (made l r) (fine .0) (made-stands l r h v), λ g. absurd (omega arith)))
 
       left-stands : (l : Result Bytes.Side) → Ok (LeftReads (s .decls) (nthArity (s .decls .arities) b) q bs) l → Stays (s .decls .exceptions) (s .decls .arities) ws q l
           → Standing (ifGood l (λ l. ifGood (readSide (s .decls) f (onRight (varsOf (l .seen))) 1 0 (l .from) (l .rest)) (λ r. readRecords f (ruled s (made l r)) (r .from) (r .rest))))
@@ -109,7 +101,7 @@ module _ (ws : List ℕ) where
       choose-stands (eqb k 1) _ _ (λ u. exception-stands f more s fine p (p + i) bs back x)
       (λ u. choose-stands (eqb k 2) _ _ (λ u. function-stands f more s fine p (p + i) bs back x c)
       (λ u. choose-stands (eqb k 3) _ _
-      (λ u. let w = of-kind 3 k x c i (drop p ws) bs (true→T (eqb k 3) u) l in
+      (λ u. let w = of-kind 3 k x c i (drop p ws) bs (eqb-true k 3 u) l in
       rule-stands f more s fine p (p + i) bs back x (w .0) (ap (λ j. p + j) (w .1)) (omega (arith, b .2, w .1, length-drop p ws)))
       (λ u. choose-stands (eqb k 4) _ _ (λ u. end-stands f more s fine p (p + i) bs back) (λ u. omega arith))))
 

@@ -355,20 +355,20 @@ top-grows (suc fuel) s p bs = go (nextRecord bs) (next-is bs) (top-grows fuel)
         choose-ok G (eqb k 1) _ _
         (λ k1. within-ok G (eqb (s .stage) 0) 3 p _ (λ z. within-ok G (ltb (D .exceptions) 16) 9 p _ (λ few. within-ok G (eqb b (D .exceptions)) 4 p _
         (λ e. ok-map (Grown (withExn s) (p + n) rest) G (readRecords fuel (withExn s) (p + n) rest)
-        (λ s′ g. grown-exn s p b n bs rest s′ (of-kind 1 k b c n bs rest k1 i) (eqb→eq (s .stage) 0 z) (ltb→lt (D .exceptions) 16 few) (eqb→eq b (D .exceptions) e) g)
+        (λ s′ g. grown-exn s p b n bs rest s′ (of-kind 1 k b c n bs rest (eqb→eq k 1 k1) i) (eqb→eq (s .stage) 0 z) (ltb→lt (D .exceptions) 16 few) (eqb→eq b (D .exceptions) e) g)
         (ih (withExn s) (p + n) rest)))))
         (choose-ok G (eqb k 2) _ _
         (λ k2. within-ok G (leb (s .stage) 1) 3 p _ (λ z. within-ok G (ltb (length (D .arities)) 32) 9 p _ (λ few. within-ok G (eqb b (length (D .arities)) && leb c 4) 4 p _
         (λ e. ok-map (Grown (withFun s c) (p + n) rest) G (readRecords fuel (withFun s c) (p + n) rest)
-        (λ s′ g. grown-fun s p b c n bs rest s′ (of-kind 2 k b c n bs rest k2 i) (leb→le (s .stage) 1 z) (ltb→lt (length (D .arities)) 32 few)
+        (λ s′ g. grown-fun s p b c n bs rest s′ (of-kind 2 k b c n bs rest (eqb→eq k 2 k2) i) (leb→le (s .stage) 1 z) (ltb→lt (length (D .arities)) 32 few)
         (eqb→eq b (length (D .arities)) (and-left (eqb b (length (D .arities))) (leb c 4) e)) (leb→le c 4 (and-right (eqb b (length (D .arities))) (leb c 4) e)) g)
         (ih (withFun s c) (p + n) rest)))))
         (choose-ok G (eqb k 3) _ _
         (λ k3. within-ok G (ltb (ruleCount (s .rulesAt)) 64) 9 p _ (λ few. within-ok G (ltb b (length (D .arities))) 4 p _
-        (λ low. sides-grow fuel s p b n bs rest (of-kind 3 k b c n bs rest k3 i) (subst (λ (j : ℕ). j < 64) (count-length (s .rulesAt)) (ltb→lt (ruleCount (s .rulesAt)) 64 few))
+        (λ low. sides-grow fuel s p b n bs rest (of-kind 3 k b c n bs rest (eqb→eq k 3 k3) i) (subst (λ (j : ℕ). j < 64) (count-length (s .rulesAt)) (ltb→lt (ruleCount (s .rulesAt)) 64 few))
         (ltb→lt b (length (D .arities)) low) ih)))
         (choose-ok G (eqb k 4) _ _
-        (λ k4. choose-ok G (eqb (length rest) 0) _ _ (λ e. grown-end s p n bs rest (of-kind 4 k b c n bs rest k4 i) (none-left rest (eqb→eq (length rest) 0 e))) tt) tt)))
+        (λ k4. choose-ok G (eqb (length rest) 0) _ _ (λ e. grown-end s p n bs rest (of-kind 4 k b c n bs rest (eqb→eq k 4 k4) i) (none-left rest (eqb→eq (length rest) 0 e))) tt) tt)))
 
 -- an accepted program is encoded, and valid
 program-reads : (p : List ℕ) → Ok (λ s. (p ≡ encodeProgram s) × Valid s) (readProgram p)

@@ -5,7 +5,7 @@ use mathlib.Core.Logic.{inl, inr}
 use mathlib.Core.Bool.{Bool, true, false, _||_, false≢true}
 use mathlib.Core.List.{List, [], _∷_, _++_, append-assoc, append-nil}
 use native.Mathlib.Omega.{arith}
-use lib.Dec.{T, eqb, leb, ltb, leb→le, eqb→eq}
+use lib.Dec.{eqb, leb, ltb, leb→le}
 use lib.ListN.{length, length-append}
 use Rattle.theory.specs.Syntax.{zeroB, trueB, falseB, Term, Terms, tnil, tcons, many, Pat, pbase, psucc, pvar, pick, choose, elem}
 use Rattle.theory.specs.Builtins.{builtinFuns, lastCalled, nthFun}
@@ -49,8 +49,8 @@ next-is [] = tt
 next-is (k ∷ bs) = bodied-is k (bodyLength k) bs refl
 
 -- a record of the kind v
-pub of-kind : (v k b c n : ℕ) (bs rest : List ℕ) → T (eqb k v) → Spelt bs k b c n rest → Spelt bs v b c n rest
-of-kind v k b c n bs rest t h = subst (λ (i : ℕ). Spelt bs i b c n rest) (eqb→eq k v t) h
+pub of-kind : (v k b c n : ℕ) (bs rest : List ℕ) → k ≡ v → Spelt bs k b c n rest → Spelt bs v b c n rest
+of-kind v k b c n bs rest e h = subst (λ (i : ℕ). Spelt bs i b c n rest) e h
 
 pub low-call : (b : ℕ) → b ≤ lastCalled → callBytes b ≡ 0x18 ∷ b ∷ []
 low-call b h = ap (λ (x : Bool). pick x (0x18 ∷ b ∷ []) (0x19 ∷ (b - 16) ∷ [])) (leb-true (suc b) 16 (omega (arith, h)))
@@ -68,7 +68,7 @@ tok-is : (D : Declared) (p k b c n : ℕ) (bs rest : List ℕ) → Spelt bs k b 
 tok-is D p k b c n bs rest h = is (termRecord D p k b) (record-read D p k b)
   where
     of : (v : ℕ) → k ≡ v → Spelt bs v b c n rest
-    of v e = subst (λ (i : ℕ). Spelt bs i b c n rest) e h
+    of v e = of-kind v k b c n bs rest e h
 
     with : (v x : ℕ) → b ≡ x → (bs ≡ v ∷ b ∷ rest) × (n ≡ 2) → (bs ≡ v ∷ x ∷ rest) × (n ≡ 2)
     with v x e s = (s .0 ∙ ap (λ (i : ℕ). v ∷ i ∷ rest) e, s .1)

@@ -14,10 +14,11 @@ use Rattle.checker.specs.declared.overlap.Overlap.{Overlap}
 use Rattle.checker.specs.declared.overlap.Overlap.the-variants.{At, Nowhere}
 use Rattle.theory.specs.Bytes.{openedAt}
 use Rattle.checker.specs.Overlap.{clashAt, anyClash, firstClash}
-use Rattle.theory.specs.Encoding.{encode}
+use Rattle.theory.specs.Encoding.{encode, Each}
+use Rattle.theory.proofs.AcceptedExactly.{each-snoc}
 use Rattle.checker.proofs.overlap.Laws.{clash-other, clash-same}
 use Rattle.checker.proofs.overlap.Encode.{args-are}
-use Rattle.checker.proofs.Rules.{All, all-snoc, Stands}
+use Rattle.checker.proofs.Rules.{Stands}
 
 abbrev pub asResult : Overlap → Result (Unit {0})
 asResult (At q) = refuse 10 q
@@ -40,15 +41,15 @@ module _ (ws ns : List ℕ) where
       by-owner false e =
           clash-other ws ns (q .opened) (r .opened) (omega (arith, h .0)) (omega (arith, k .0)) (λ g. eqb-false (q .owner) (r .owner) e (sym (h .1) ∙ g ∙ k .1))
 
-  any-is : (qs : List RuleAt) (r : RuleAt) → All (Stands ws ns) qs → Stands ws ns r → anyClash ws ns (openedAt qs) (r .opened) ≡ overlapsEarlier r qs
+  any-is : (qs : List RuleAt) (r : RuleAt) → Each (Stands ws ns) qs → Stands ws ns r → anyClash ws ns (openedAt qs) (r .opened) ≡ overlapsEarlier r qs
   unfolding anyClash
   any-is [] r h k = refl
   any-is (q ∷ qs) r h k = rw (clash-is q r (h .0) k, any-is qs r (h .1) k)
 
-  pub overlap-is : (qs rs : List RuleAt) → All (Stands ws ns) qs → All (Stands ws ns) rs → asResult (firstClash ws ns (openedAt qs) (openedAt rs)) ≡ refuseOverlaps qs rs
+  pub overlap-is : (qs rs : List RuleAt) → Each (Stands ws ns) qs → Each (Stands ws ns) rs → asResult (firstClash ws ns (openedAt qs) (openedAt rs)) ≡ refuseOverlaps qs rs
   unfolding firstClash
   overlap-is qs [] h k = refl
-  overlap-is qs (r ∷ rs) h k = rw (any-is qs r h (k .0), ← opened-snoc qs r) (by-clash (overlapsEarlier r qs) (overlap-is (addLast qs r) rs (all-snoc (Stands ws ns) qs r h (k .0)) (k .1)))
+  overlap-is qs (r ∷ rs) h k = rw (any-is qs r h (k .0), ← opened-snoc qs r) (by-clash (overlapsEarlier r qs) (overlap-is (addLast qs r) rs (each-snoc (Stands ws ns) qs r h (k .0)) (k .1)))
     where
       by-clash : (b : Bool) → asResult (firstClash ws ns (openedAt (addLast qs r)) (openedAt rs)) ≡ refuseOverlaps (addLast qs r) rs
           → asResult (choose b (λ u. At (r .opened)) (λ u. firstClash ws ns (openedAt (addLast qs r)) (openedAt rs))) ≡ choose b (λ u. refuse 10 (r .opened)) (λ u. refuseOverlaps (addLast qs r) rs)
