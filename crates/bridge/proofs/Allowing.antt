@@ -1,4 +1,4 @@
--- The calls' answers, case by case: refusals 1 to 11, refusal 12, refusal 13, and the engines'.
+-- The calls' answers, case by case: refusals 1 to 11 and 17, refusal 12, refusal 13, and the engines'.
 use Prim.Native.Nat.{ℕ, _≤_, _<_}
 use mathlib.Core.Path.{_≡_, refl, sym, ap, ap₂, _∙_, subst}
 use mathlib.Core.Bool.{Bool, true, false, _&&_}
@@ -84,7 +84,7 @@ pub by-second : (room first second : ℕ) → room ≤ first → leb room second
 unfolding buffersHold
 by-second room first second h = sym (ap (λ (b : Bool). b && leb room second) (le-leb room first h))
 
--- REFUSALS 1 TO 11
+-- REFUSALS 1 TO 11 AND 17
 module _ (p q : List ℕ) (r : Report) (e : r ≡ verdictReport (judged p q)) (h : r .number ≡ 0 → ⊥) where
   pub evaluate-refused : (steps levels : ℕ) → r ≡ reportOf (evaluate p q steps levels)
   unfolding evaluate reportOf verdictReport refusalReport

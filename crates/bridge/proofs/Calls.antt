@@ -8,13 +8,13 @@ use native.Mathlib.Omega.{arith}
 use Rattle.theory.specs.Endings.{is, tooDeep, tooBig, Answer}
 use Rattle.theory.specs.Answers.{About, theProgram, Reply, refusal, answer, evaluate, Rewritten, rewrite}
 use Rattle.theory.specs.Bytes.{good, Book, readProgram}
-use Rattle.theory.specs.Demands.{Accepted, RefusedByReading, EvaluateInRange, RewriteInRange, LongEnough}
-use Rattle.theory.proofs.AnsweredExactly.{reading-number, evaluate-answers-exactly, evaluate-refuses-12-exactly, evaluate-refuses-as-read-exactly, evaluate-refuses, rewrite-answers-exactly, rewrite-refuses-12-exactly, rewrite-refuses-13-exactly, rewrite-refuses-as-read-exactly, rewrite-refuses, refusal-changes-nothing, larger-allowances-evaluate, larger-allowances-rewrite, both-answer-the-same}
+use Rattle.theory.specs.Demands.{Accepted, RefusedByReading, OfReading, EvaluateInRange, RewriteInRange, LongEnough}
+use Rattle.theory.proofs.AnsweredExactly.{reading-number, not-thirteen, evaluate-answers-exactly, evaluate-refuses-12-exactly, evaluate-refuses-as-read-exactly, evaluate-refuses, rewrite-answers-exactly, rewrite-refuses-12-exactly, rewrite-refuses-13-exactly, rewrite-refuses-as-read-exactly, rewrite-refuses, refusal-changes-nothing, larger-allowances-evaluate, larger-allowances-rewrite, both-answer-the-same}
 use Rattle.bridge.specs.declared.report.Report.{Report}
 use Rattle.bridge.specs.Report.{aboutNumber, refusalReport, reportOf}
 use Rattle.bridge.specs.Calls.{Leaves}
 use Rattle.bridge.specs.Demanded.{IsRefusal, IsAnswer, Refuses, Answers}
-use Rattle.bridge.proofs.Reports.{same-reply, answer-report, ending-final, ending-deep, ending-big, Why, is-either, refused-so, answered-so, reply-answers, reply-refuses}
+use Rattle.bridge.proofs.Reports.{same-reply, not-zero, answer-report, ending-final, ending-deep, ending-big, Why, is-either, refused-so, answered-so, reply-answers, reply-refuses}
 
 -- THE EVALUATOR'S REPORT
 module _ (p q : List ℕ) (steps levels : ℕ) (r : Report) (e : r ≡ reportOf (evaluate p q steps levels)) where
@@ -72,7 +72,7 @@ module _ (p q : List ℕ) (steps levels : ℕ) (r : Report) (e : r ≡ reportOf 
       by 13 (w .0) (w .1) refl (evaluate-refuses p q steps levels 13 (w .0) (w .1) (w .2))
     where
       by : (n : ℕ) (a : About) (place : ℕ) → n ≡ 13 → RefusedByReading p q n a place ⊎ ((n ≡ 12) × (a ≡ theProgram) × (place ≡ 0)) → ⊥
-      by n a place i (inl h) = let high = reading-number p q n a place h .1 in omega (arith, i, high)
+      by n a place i (inl h) = not-thirteen (subst OfReading i (reading-number p q n a place h))
       by n a place i (inr h) = let j = h .0 in omega (arith, i, j)
 
   -- any other refusal exactly where it is the reading's
@@ -95,7 +95,7 @@ module _ (p q : List ℕ) (steps room : ℕ) (own first second : List ℕ) (r : 
   pub rewrite-report-refuses : (r .number ≢ 0) ⊎ (r .ending ≡ 0) → Refuses p q r × (own′ ≡ own) × (first′ ≡ first) × (second′ ≡ second)
   rewrite-report-refuses k =
       let f = refused-so p q reply (rewrite-refuses p q steps room own first second) r (l .report) k in
-      let low = f .is-refusal .0 in
+      let low = not-zero (r .number) (f .is-refusal .0) in
       let w = reply-refuses p q reply (rewrite-refuses p q steps room own first second) r (l .report) (r .number) low refl in
       let h = refusal-changes-nothing p q steps room own first second (r .number) (w .0) (w .1) (w .2) in
       (f, l .own-list ∙ ap (λ (x : Rewritten). x .own) h, l .first-buffer ∙ ap (λ (x : Rewritten). x .first) h, l .second-buffer ∙ ap (λ (x : Rewritten). x .second) h)

@@ -1,4 +1,4 @@
--- The checker's answers give refusals 1 to 11; and where there is none, program and question are accepted.
+-- The checker's answers give refusals 1 to 11 and 17; and where there is none, program and question are accepted.
 use Prim.Native.Nat.{ℕ, _+_, _-_, _<_}
 use mathlib.Core.Path.{_≡_, refl, sym, ap, ap₂, _∙_}
 use mathlib.Core.Bool.{Bool}
@@ -9,7 +9,8 @@ use borrow.Author.Tests.{eq-eqb, ne-eqb}
 use Rattle.theory.specs.Syntax.{Term, pick}
 use Rattle.theory.specs.Bytes.{Result, refused, good, Refusal, Declared, Book, readProgram, readQuestion}
 use Rattle.theory.specs.Answers.{theProgram, theQuestion, Verdict, refuses, accepts, onQuestion, onProgram, judged}
-use Rattle.theory.proofs.Bounds.{program-refusal-small, question-refusal-small}
+use Rattle.theory.proofs.Refused.{program-refusal-bounded}
+use Rattle.theory.proofs.Refused as refusals
 use Rattle.checker.specs.declared.Checked.{Checked}
 use Rattle.checker.specs.declared.Verdict as checker
 use Rattle.checker.specs.Answer.{refusedAs, checkedOf, declared, verdictOf}
@@ -56,7 +57,7 @@ module _ (p : List ℕ) (c : Checked) (e : c ≡ checkedOf (readProgram p)) wher
   program-place = by-answer (readProgram p) refl
     where
       by-answer : (r : Result Book) → readProgram p ≡ r → c .place < 4294967296
-      by-answer (refused r) h = let b = program-refusal-small p r h in omega (arith, b .0, ap (λ (x : Checked). x .place) (e ∙ ap checkedOf h))
+      by-answer (refused r) h = omega (arith, program-refusal-bounded p r h, ap (λ (x : Checked). x .place) (e ∙ ap checkedOf h))
       by-answer (good s) h = omega (arith, ap (λ (x : Checked). x .place) (e ∙ ap checkedOf h))
 
   pub program-refused : (q : List ℕ) (r : Report) → (c .number ≡ 0 → ⊥) → r ≡ refusedBy (c .number) 1 (c .place) → record { refusal = r; checked = c } ≡ judgedAs p q
@@ -89,7 +90,7 @@ module _ (p : List ℕ) (c : Checked) (e : c ≡ checkedOf (readProgram p)) wher
       question-place = let b = program-read p c e z in by-answer (b .0) (verdict-is (b .0) (b .1 .0) (b .1 .1)) (readQuestion (b .0 .decls) q) refl
         where
           by-answer : (s : Book) → v ≡ verdictOf (readQuestion (s .decls) q) → (x : Result Term) → readQuestion (s .decls) q ≡ x → v .place < 4294967296
-          by-answer s w (refused r) h = let b = question-refusal-small (s .decls) q r h in omega (arith, b .0, ap (λ (y : checker.Verdict). y .place) (w ∙ ap verdictOf h))
+          by-answer s w (refused r) h = omega (arith, refusals.question-refused (s .decls) q r h .in-words, ap (λ (y : checker.Verdict). y .place) (w ∙ ap verdictOf h))
           by-answer s w (good t) h = omega (arith, ap (λ (y : checker.Verdict). y .place) (w ∙ ap verdictOf h))
 
       pub question-refused : (r : Report) → r ≡ refusedBy (v .number) 2 (v .place) → record { refusal = r; checked = c } ≡ judgedAs p q

@@ -9,12 +9,13 @@ use lib.ListN.{length}
 use Rattle.theory.specs.Syntax.{Base, zeroB, trueB, falseB, Val, base, up, height, pick}
 use Rattle.theory.specs.Endings.{value, raised, stuck, tooDeep, Said, is, outOfSteps, tooBig, Answer, says, Final}
 use Rattle.theory.specs.Answers.{About, theProgram, theQuestion, Reply, refusal, answer}
-use Rattle.theory.specs.Demands.{RefusedByReading}
+use Rattle.theory.specs.Demands.{RefusedByReading, OfReading}
 use Rattle.theory.proofs.AnsweredExactly.{reading-number}
-use Rattle.theory.proofs.Refusals.{question-number, reading-place}
+use Rattle.theory.proofs.Refusals.{reading-place}
+use Rattle.theory.proofs.Refused.{question-refused}
 use Rattle.bridge.specs.declared.report.Report.{Report}
 use Rattle.bridge.specs.Report.{aboutNumber, baseNumber, refusalReport, endingReport, saidReport, answerReport, reportOf}
-use Rattle.bridge.specs.Demanded.{IsRefusal, IsAnswer, Refuses, Answers}
+use Rattle.bridge.specs.Demanded.{OfACall, IsRefusal, IsAnswer, Refuses, Answers}
 
 -- A REPORT LOSES NOTHING: the reply can be read from it
 abbrev aboutOf : ℕ → About
@@ -94,29 +95,35 @@ ending-big a h = ap (λ (m : Said). saidReport m (a .steps) .ending) h
 abbrev pub Why : List ℕ → List ℕ → ℕ → About → ℕ → Type 0
 Why p q n a place = RefusedByReading p q n a place ⊎ (((n ≡ 12) ⊎ (n ≡ 13)) × (a ≡ theProgram) × (place ≡ 0))
 
-why-number : (p q : List ℕ) (n : ℕ) (a : About) (place : ℕ) → Why p q n a place → (1 ≤ n) × (n ≤ 13)
-why-number p q n a place (inl h) = let k = reading-number p q n a place h in let low = k .0 in let high = k .1 in (low, omega (arith, high))
-why-number p q n a place (inr (inl k, b, z)) = (omega (arith, k), omega (arith, k))
-why-number p q n a place (inr (inr k, b, z)) = (omega (arith, k), omega (arith, k))
+why-number : (p q : List ℕ) (n : ℕ) (a : About) (place : ℕ) → Why p q n a place → OfACall n
+why-number p q n a place (inl h) = by (reading-number p q n a place h)
+  where
+    by : OfReading n → OfACall n
+    by (inl (low, high)) = inl (low, omega (arith, high))
+    by (inr k) = inr k
+why-number p q n a place (inr (inl k, b, z)) = inl (omega (arith, k), omega (arith, k))
+why-number p q n a place (inr (inr k, b, z)) = inl (omega (arith, k), omega (arith, k))
+
+pub not-zero : (n : ℕ) → OfACall n → 1 ≤ n
+not-zero n (inl h) = h .0
+not-zero n (inr h) = omega (arith, h)
 
 refusal-report : (p q : List ℕ) (n : ℕ) (a : About) (place : ℕ) → Why p q n a place → Refuses p q (reportOf (refusal n a place))
 unfolding reportOf refusalReport
 refusal-report p q n theProgram place h =
-    let k = why-number p q n theProgram place h in
-    record { is-refusal = (k .0, k .1, refl); string-and-place = inl (refl, inside h); other-fields = (refl, refl, refl); of-a-question = λ i. absurd (omega (arith, i)) }
+    record { is-refusal = (why-number p q n theProgram place h, refl); string-and-place = inl (refl, inside h); other-fields = (refl, refl, refl); of-a-question = λ i. absurd (omega (arith, i)) }
   where
     inside : Why p q n theProgram place → place ≤ length p
     inside (inl g) = reading-place p q n theProgram place g
     inside (inr (k, b, z)) = omega (arith, z)
 refusal-report p q n theQuestion place (inl h) =
-    let k = reading-number p q n theQuestion place h in
-    let low = k .0 in
-    let high = k .1 in
+    let k = question-refused (h .0 .decls) q (record { number = n; place = place }) (h .2) in
+    let high = k .to in
     record {
-      is-refusal = (low, omega (arith, high), refl);
+      is-refusal = (why-number p q n theQuestion place (inl h), refl);
       string-and-place = inr (refl, reading-place p q n theQuestion place h);
       other-fields = (refl, refl, refl);
-      of-a-question = λ i. (question-number (h .0 .decls) q (record { number = n; place = place }) (h .2), (λ j. omega (arith, high, j)), λ j. omega (arith, high, j));
+      of-a-question = λ i. (k .not, (λ j. omega (arith, high, j)), λ j. omega (arith, high, j));
     }
 refusal-report p q n theQuestion place (inr (k, b, z)) = absurd (let i = ap aboutNumber b in omega (arith, i))
 
@@ -149,8 +156,8 @@ module _ (p q : List ℕ) (w : Reply) (why : (n : ℕ) (a : About) (place : ℕ)
     where
       by : Refuses p q r ⊎ Answers r → (r .number ≡ 0) ⊎ (1 ≤ r .ending) → Answers r
       by (inr h) k = h
-      by (inl h) (inl k) = absurd (let low = h .is-refusal .0 in omega (arith, low, k))
-      by (inl h) (inr k) = absurd (let none = h .is-refusal .2 in omega (arith, none, k))
+      by (inl h) (inl k) = absurd (let low = not-zero (r .number) (h .is-refusal .0) in omega (arith, low, k))
+      by (inl h) (inr k) = absurd (let none = h .is-refusal .1 in omega (arith, none, k))
 
   -- the reply itself
   pub reply-answers : (r .number ≡ 0) ⊎ (1 ≤ r .ending) → (a : Answer) × (w ≡ answer a)
@@ -159,7 +166,7 @@ module _ (p q : List ℕ) (w : Reply) (why : (n : ℕ) (a : About) (place : ℕ)
     where
       by : (v : Reply) → w ≡ v → (a : Answer) × (w ≡ answer a)
       by (refusal n a place) g =
-          absurd (let low = why-number p q n a place (why n a place g) .0 in let z = answered-so k .is-answer .0 in let i = ap (λ (x : Report). x .number) (e ∙ ap reportOf g) in omega (arith, low, z, i))
+          absurd (let low = not-zero n (why-number p q n a place (why n a place g)) in let z = answered-so k .is-answer .0 in let i = ap (λ (x : Report). x .number) (e ∙ ap reportOf g) in omega (arith, low, z, i))
       by (answer a) g = (a, g)
 
   pub reply-refuses : (n : ℕ) → 1 ≤ n → r .number ≡ n → (a : About) × (place : ℕ) × (w ≡ refusal n a place)

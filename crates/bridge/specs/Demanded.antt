@@ -9,15 +9,19 @@ use Rattle.theory.specs.Demands.{NotOfAQuestion}
 use Rattle.bridge.specs.declared.report.Report.{Report}
 use Rattle.bridge.specs.Report.{reportOf, reportWords}
 
--- A REPORT IS A REFUSAL OR AN ANSWER: its number is from 1 to 13 and its ending 0, or its number 0 and its ending from 1 to 6.
+-- the numbers by which a call refuses: 1 to 13, and 17 (document 02, Q-9)
+abbrev pub OfACall : ℕ → Type 0
+OfACall n = ((1 ≤ n) × (n ≤ 13)) ⊎ (n ≡ 17)
+
+-- A REPORT IS A REFUSAL OR AN ANSWER: its number is 1 to 13 or 17 and its ending 0, or its number 0 and its ending from 1 to 6.
 abbrev pub IsRefusal : Report → Type 0
-IsRefusal r = (1 ≤ r .number) × (r .number ≤ 13) × (r .ending ≡ 0)
+IsRefusal r = OfACall (r .number) × (r .ending ≡ 0)
 
 abbrev pub IsAnswer : Report → Type 0
 IsAnswer r = (r .number ≡ 0) × (1 ≤ r .ending) × (r .ending ≤ 6)
 
 -- "Each refusal gives its number, which string it is about (program or question; program for 12 and 13) and the byte place in that string, zero
--- for every other field"; "A question is never refused by 1, 9, 5, 6 or 10."
+-- for every other field"; "A question is never refused by 1, 9, 5, 6 or 10", nor by 17.
 pub record Refuses (p q : List ℕ) (r : Report) : Type 0 where
   pub is-refusal : IsRefusal r
   pub string-and-place : ((r .about ≡ 1) × (r .place ≤ length p)) ⊎ ((r .about ≡ 2) × (r .place ≤ length q))

@@ -1,4 +1,4 @@
--- Refusals 1 to 11 as a report, beside the checker's answer on the program.
+-- Refusals 1 to 11 and 17 as a report, beside the checker's answer on the program.
 use Prim.Native.Nat.{ℕ}
 use mathlib.Core.Bool.{Bool, _&&_}
 use mathlib.Core.List.{List}

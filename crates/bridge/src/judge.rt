@@ -1,4 +1,4 @@
-// Refusals 1 to 13 but for the own list's: the program's, then the question's, then the allowances' and the buffers'.
+// Refusals 1 to 13 and 17 but for the own list's: the program's, then the question's, then the allowances' and the buffers'.
 use crate::report::Report;
 use crate::report::refused;
 use checker::Checked;
@@ -26,7 +26,7 @@ pub struct Judged {
     pub checked: Checked,
 }
 
-// Refusals 1 to 11, whatever the bytes.
+// Refusals 1 to 11 and 17, whatever the bytes.
 pub fn judge(program: &[u8], question: &[u8]) -> Judged
     ensures { λ r. ⌜ r ≡ judgedAs (now (program .entry)) (now (question .entry)) ⌝ }
 {

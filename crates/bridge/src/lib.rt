@@ -1,4 +1,4 @@
-// The two public calls: they refuse by the numbers 1 to 13, or run one engine.
+// The two public calls: they refuse by the numbers 1 to 13 and 17, or run one engine.
 pub mod door;
 mod evaluating;
 mod judge;

@@ -21,7 +21,11 @@ use Rattle.checker.specs.Declarations.{Kept, stopTop, ownArities}
 use Rattle.checker.specs.Program.{parseOf, topAt, topOf, settled, ownOpenings}
 use Rattle.checker.specs.Overlap.{firstClash}
 use Rattle.checker.proofs.program.Theory.{pad-take, own-are, opened-many, parse-is}
-use Rattle.checker.proofs.Rules.{Standing, all-stand}
+use Rattle.theory.specs.Encoding.{Each}
+use Rattle.theory.proofs.SidesGive.{ok-of}
+use Rattle.theory.proofs.AcceptedExactly.{AllRead, records-read}
+use Rattle.theory.proofs.Refused.{records-refusal-number}
+use Rattle.checker.proofs.Rules.{Stands, all-stand}
 use Rattle.checker.proofs.overlap.Theory.{asResult, overlap-is}
 use Rattle.checker.proofs.side.Scan.{scan-fuel}
 use Rattle.checker.proofs.side.Theory.{Same, scan-is-side}
@@ -47,7 +51,7 @@ unfolding topAt
 rules-fit s k = k .2
 
 module _ (ws : List ℕ) (t : Top) where
-  good-settled : (s : Book) → t ≡ topAt s 3 0 → Kept t → Standing ws (good s) → settled t (firstClash ws (ownArities t) [] (ownOpenings t)) ≡ checkedOf (joined (good s))
+  good-settled : (s : Book) → t ≡ topAt s 3 0 → Kept t → Each (Stands ws (s .decls .arities)) (s .rulesAt) → settled t (firstClash ws (ownArities t) [] (ownOpenings t)) ≡ checkedOf (joined (good s))
   good-settled s e k h =
       let f : length (s .decls .arities) ≤ 32 = functions-fit s (rw e at k) in
       let n : ruleCount (s .rulesAt) ≤ 64 = rules-fit s (rw e at k) in
@@ -59,10 +63,13 @@ module _ (ws : List ℕ) (t : Top) where
   joined-refused (refused r) e h = rw e
   joined-refused (good s) e h = absurd (h (rw e refl))
 
-  joined-settled : (r : Result Book) → t ≡ topOf r → Kept t → Standing ws r → t .number ≡ 0 → settled t (firstClash ws (ownArities t) [] (ownOpenings t)) ≡ checkedOf (joined r)
+  joined-settled : (r : Result Book) → readRecords (suc (length ws)) emptyBook 0 ws ≡ r → t ≡ topOf r → Kept t → t .number ≡ 0
+      → settled t (firstClash ws (ownArities t) [] (ownOpenings t)) ≡ checkedOf (joined r)
   unfolding topOf stopTop
-  joined-settled (refused r) e k h z = absurd (h (sym (ap (λ (x : Top). x .number) e) ∙ z))
-  joined-settled (good s) e k h z = good-settled s e k h
+  joined-settled (refused r) h e k z = absurd (omega (arith, records-refusal-number ws r h, sym (ap (λ (x : Top). x .number) e) ∙ z))
+  joined-settled (good s) h e k z =
+      let a = ok-of (AllRead ws) (readRecords (suc (length ws)) emptyBook 0 ws) s (records-read ws) h in
+      good-settled s e k (all-stand ws s (a .0) (a .1))
 
   module _ (short : length ws ≤ 8192) (read : t ≡ parseOf ws) where
     pub program-refused : (t .number ≡ 0 → ⊥) → refusedAs (t .number) (t .place) ≡ checkedOf (readProgram ws)
@@ -71,7 +78,7 @@ module _ (ws : List ℕ) (t : Top) where
 
     pub program-settled : Kept t → t .number ≡ 0 → settled t (firstClash ws (ownArities t) [] (ownOpenings t)) ≡ checkedOf (readProgram ws)
     unfolding readProgram
-    program-settled k z = rw (le-leb (length ws) 8192 short) (joined-settled (readRecords (suc (length ws)) emptyBook 0 ws) (read ∙ parse-is ws) k (all-stand ws) z)
+    program-settled k z = rw (le-leb (length ws) 8192 short) (joined-settled (readRecords (suc (length ws)) emptyBook 0 ws) refl (read ∙ parse-is ws) k z)
 
 pub program-long : (ws : List ℕ) → 8192 < length ws → refusedAs 1 0 ≡ checkedOf (readProgram ws)
 unfolding readProgram checkedOf

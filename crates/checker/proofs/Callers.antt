@@ -1,7 +1,7 @@
 -- What a caller learns of an accepted program and of an accepted question.
 use Prim.Native.Nat.{ℕ, zero, suc, _≤_}
 use mathlib.Core.Path.{_≡_, refl, sym, ap, _∙_}
-use mathlib.Core.Bool.{Bool, true, false}
+use mathlib.Core.Logic.{inl, inr}
 use mathlib.Core.List.{List, [], _∷_}
 use native.Mathlib.Omega.{arith}
 use lib.Dec.{eqb, leb, ltb}
@@ -18,120 +18,43 @@ use Rattle.checker.specs.Declarations.{Kept, stopTop, startTop, ownAriti
 use Rattle.checker.specs.Program.{turnOf, turns, parseOf, topAt, topOf}
 use Rattle.checker.proofs.program.Turns.{turn-goes, start-kept}
 use Rattle.checker.proofs.program.Theory.{own-are, parse-is}
-use Rattle.checker.proofs.Rules.{Standing, all-stand}
-use Rattle.checker.proofs.side.Theory.{Stays, scan-is-side}
-
--- no refusal has the number 0
-abbrev Counted : {A : Type 0} → Result A → Type 0
-Counted (refused r) = r .number ≡ 0 → ⊥
-Counted (good a) = Unit {0}
-
-overlap-counted : (qs rs : List RuleAt) → Counted (refuseOverlaps qs rs)
-overlap-counted qs [] = tt
-overlap-counted qs (r ∷ rs) = by-clash (overlapsEarlier r qs) (overlap-counted (addLast qs r) rs)
-  where
-    by-clash : (b : Bool) → Counted (refuseOverlaps (addLast qs r) rs) → Counted (choose b (λ u. refuse 10 (r .opened)) (λ u. refuseOverlaps (addLast qs r) rs))
-    by-clash true h = omega arith
-    by-clash false h = h
-
-abbrev joined : Result Book → Result Book
-joined r = ifGood r (λ s. ifGood (refuseOverlaps [] (s .rulesAt)) (λ u. good s))
-
-then-counted : (s : Book) (o : Result (Unit {0})) → Counted o → Counted (ifGood o (λ u. good s))
-then-counted s (refused r) h = h
-then-counted s (good u) h = tt
-
-joined-counted : (ws : List ℕ) (r : Result Book) → Standing ws r → Counted (joined r)
-joined-counted ws (refused r) h = h
-joined-counted ws (good s) h = then-counted s (refuseOverlaps [] (s .rulesAt)) (overlap-counted [] (s .rulesAt))
-
-program-counted : (ws : List ℕ) → Counted (readProgram ws)
-unfolding readProgram
-program-counted ws = by-length (leb (length ws) 8192)
-  where
-    by-length : (b : Bool) → Counted (choose b (λ u. joined (readRecords (suc (length ws)) emptyBook 0 ws)) (λ u. refuse 1 0))
-    by-length true = joined-counted ws (readRecords (suc (length ws)) emptyBook 0 ws) (all-stand ws)
-    by-length false = omega arith
+use Rattle.theory.specs.Demands.{OfReading}
+use Rattle.theory.proofs.AcceptedExactly.{count-length, accepted-exactly}
+use Rattle.theory.proofs.Refused.{program-refusal-number, question-refused}
 
 -- A program is accepted exactly where the answer's number is 0, and the answer then has its declarations.
 pub program-read : (ws : List ℕ) (c : Checked) → c ≡ checkedOf (readProgram ws) → c .number ≡ 0 → (s : Book) × ((readProgram ws ≡ good s) × (c ≡ checkedOf (good s)))
 unfolding checkedOf refusedAs
-program-read ws c e z = by-answer (readProgram ws) refl (program-counted ws)
+program-read ws c e z = by-answer (readProgram ws) refl
   where
     number-is : (r : Bytes.Refusal) → checkedOf (refused r) .number ≡ r .number
     number-is r = refl
 
-    by-answer : (r : Result Book) → readProgram ws ≡ r → Counted r → (s : Book) × ((readProgram ws ≡ good s) × (c ≡ checkedOf (good s)))
-    by-answer (refused r) h k = absurd (k (sym (number-is r) ∙ sym (ap (λ (x : Checked). x .number) (e ∙ ap checkedOf h)) ∙ z))
-    by-answer (good s) h k = (s, (h, e ∙ ap checkedOf h))
+    -- no refusal has the number 0
+    not-zero : (n : ℕ) → OfReading n → n ≡ 0 → ⊥
+    not-zero n (inl h) i = omega (arith, h .0, i)
+    not-zero n (inr h) i = omega (arith, h, i)
+
+    by-answer : (r : Result Book) → readProgram ws ≡ r → (s : Book) × ((readProgram ws ≡ good s) × (c ≡ checkedOf (good s)))
+    by-answer (refused r) h =
+        absurd (not-zero (r .number) (program-refusal-number ws r h) (sym (number-is r) ∙ sym (ap (λ (x : Checked). x .number) (e ∙ ap checkedOf h)) ∙ z))
+    by-answer (good s) h = (s, (h, e ∙ ap checkedOf h))
 
 -- The same of a question.
-ended-counted : (n : ℕ) (ns ws : List ℕ) (p : ℕ) (r : Result Bytes.Side) → Stays n ns ws p r
-    → Counted (ifGood r (λ s. choose (eqb (length (s .rest)) 0) (λ u. good (nthTerm (termsFrom (s .records)) 0)) (λ u. refuse 11 (s .from))))
-ended-counted n ns ws p (refused r) h = h
-ended-counted n ns ws p (good s) h = by-rest (eqb (length (s .rest)) 0)
-  where
-    by-rest : (b : Bool) → Counted (choose b (λ u. good (nthTerm (termsFrom (s .records)) 0)) (λ u. refuse {A = Term} 11 (s .from)))
-    by-rest true = tt
-    by-rest false = omega arith
-
-question-counted : (n : ℕ) (ns ws : List ℕ) → Counted (readQuestion (declared n ns) ws)
-unfolding readQuestion
-question-counted n ns ws = ended-counted n ns ws 0 (readSide (declared n ns) (suc (length ws)) inQuestion 1 0 0 ws) (scan-is-side n ns ws (suc (length ws)) inQuestion 1 0 0 .1)
-
 pub question-read : (n : ℕ) (ns ws : List ℕ) (v : Verdict) → v ≡ verdictOf (readQuestion (declared n ns) ws) → v .number ≡ 0 → (t : Term) × (readQuestion (declared n ns) ws ≡ good t)
-question-read n ns ws v e z = by-answer (readQuestion (declared n ns) ws) refl (question-counted n ns ws)
+question-read n ns ws v e z = by-answer (readQuestion (declared n ns) ws) refl
   where
-    by-answer : (r : Result Term) → readQuestion (declared n ns) ws ≡ r → Counted r → (t : Term) × (readQuestion (declared n ns) ws ≡ good t)
-    by-answer (refused r) h k = absurd (k (sym (ap (λ (x : Verdict). x .number) (e ∙ ap verdictOf h)) ∙ z))
-    by-answer (good t) h k = (t, h)
+    by-answer : (r : Result Term) → readQuestion (declared n ns) ws ≡ r → (t : Term) × (readQuestion (declared n ns) ws ≡ good t)
+    by-answer (refused r) h = absurd (omega (arith, question-refused (declared n ns) ws r h .from, sym (ap (λ (x : Verdict). x .number) (e ∙ ap verdictOf h)) ∙ z))
+    by-answer (good t) h = (t, h)
 
 -- An accepted program has at most 32 functions and 64 rules, and its arities are the part of the answer's table that is lent.
-stop-kept : (n p : ℕ) → Kept (stopTop n p)
-unfolding stopTop
-stop-kept n p = (omega arith, refl, omega arith, refl)
-
-choose-kept : (b : Bool) (x y : Unit {0} → Top) → Kept (x tt) → Kept (y tt) → Kept (choose b x y)
-choose-kept true x y h k = h
-choose-kept false x y h k = k
-
-kept-turns : (ws : List ℕ) (f : ℕ) (t : Top) → Kept t → Kept (turns ws f t)
-unfolding turns
-kept-turns ws zero t k = choose-kept (ltb (t .stage) 3) _ _ (stop-kept 2 (t .place)) k
-kept-turns ws (suc f) t k = choose-kept (ltb (t .stage) 3) _ _ (kept-turns ws f (turnOf ws t) (turn-goes ws t .1 k)) k
-
-parse-kept : (ws : List ℕ) → Kept (parseOf ws)
-unfolding parseOf
-parse-kept ws = kept-turns ws (suc (length ws)) startTop (start-kept ws startTop refl)
-
-joined-good : (r : Result Book) (s : Book) → joined r ≡ good s → r ≡ good s
-joined-good (refused r) s e = let z : _≡_ {A = ℕ} 0 1 = cc in absurd (omega arith)
-joined-good (good t) s e = by-overlap (refuseOverlaps [] (t .rulesAt)) e
-  where
-    by-overlap : (o : Result (Unit {0})) → ifGood o (λ u. good t) ≡ good s → good t ≡ good s
-    by-overlap (refused r) e = let z : _≡_ {A = ℕ} 0 1 = cc in absurd (omega arith)
-    by-overlap (good u) e = e
-
-top-good : (ws : List ℕ) (s : Book) → readProgram ws ≡ good s → readRecords (suc (length ws)) emptyBook 0 ws ≡ good s
-unfolding readProgram
-top-good ws s e = by-length (leb (length ws) 8192) e
-  where
-    by-length : (b : Bool) → choose b (λ u. joined (readRecords (suc (length ws)) emptyBook 0 ws)) (λ u. refuse 1 0) ≡ good s → readRecords (suc (length ws)) emptyBook 0 ws ≡ good s
-    by-length true e = joined-good (readRecords (suc (length ws)) emptyBook 0 ws) s e
-    by-length false e = let z : _≡_ {A = ℕ} 0 1 = cc in absurd (omega arith)
-
 module _ (ws : List ℕ) (s : Book) (read : readProgram ws ≡ good s) where
-  parsed : parseOf ws ≡ topAt s 3 0
-  unfolding topOf
-  parsed = parse-is ws ∙ ap topOf (top-good ws s read)
-
   pub functions-most : length (s .decls .arities) ≤ 32
-  unfolding topAt
-  functions-most = rw parsed at (parse-kept ws) .0
+  functions-most = accepted-exactly ws s .0 read .1 .readable .functions
 
   pub rules-most : ruleCount (s .rulesAt) ≤ 64
-  unfolding topAt
-  rules-most = rw parsed at (parse-kept ws) .2
+  rules-most = omega (arith, accepted-exactly ws s .0 read .1 .readable .rules, count-length (s .rulesAt))
 
   pub arities-lent : take (length (s .decls .arities)) (drop 16 (table (s .decls .arities))) ≡ s .decls .arities
   unfolding topAt ownArities

@@ -5,7 +5,7 @@ ghost use Rattle.checker.specs.Declarations.{stopTop, startTop, exceptio
 
 // What has been read of a program. Stage 0 is among exceptions, 1 among functions, 2 among rules, 3 at the end. A refused program
 // is at the end with the number and the place of its refusal, and zero elsewhere. Arities by function number: built-in b is b,
-// declared f is 16 + f. Openings are the places where the rules begin.
+// declared f is 16 + f. Openings are the places where the rules begin. Ruled says which of the declared functions have a rule.
 pub struct Top {
     pub number: u8,
     pub place: usize,
@@ -15,6 +15,7 @@ pub struct Top {
     pub rules: usize,
     pub arities: [u8; 48],
     pub openings: [usize; 64],
+    pub ruled: [bool; 32],
 }
 
 // A refused program, while it is read.
@@ -30,6 +31,7 @@ pub fn refused_top(number: u8, place: usize) -> Top
         rules: 0,
         arities: [0; 48],
         openings: [0; 64],
+        ruled: [false; 32],
     }
 }
 
@@ -47,6 +49,7 @@ pub fn start_top() -> Top
         rules: 0,
         arities,
         openings: [0; 64],
+        ruled: [false; 32],
     }
 }
 

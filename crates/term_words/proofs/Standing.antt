@@ -12,7 +12,7 @@ use lib.ListN.{length, length-append}
 use Rattle.theory.specs.Syntax.{zeroB, trueB, falseB, Term, succ, handle, cond, call, Terms, tnil, tcons, many, pick}
 use Rattle.theory.specs.Bytes.{TermRecord, constantRecord, succRecord, ifRecord, variableRecord, raiseRecord, handleRecord, callRecord, recordParts, recordWords, firstTerms, laterTerms, nthTerm, termFrom, termsFrom, bodyLength, withBody, good, Declared, readQuestion, Agrees}
 use Rattle.theory.specs.Encoding.{callBytes, encode, encodes, termWords, termsWords, OverDeclared, AllOverDeclared}
-use Rattle.theory.proofs.Accepted.{TokOk, AllTok, Balanced}
+use Rattle.theory.proofs.SidesGive.{TokOk, AllTok, Balanced}
 use Rattle.theory.proofs.RecordsOfTerms.{bytesTok, bytesToks, wordsToks, flats, flats-bytes, flats-words, flats-ok, flats-due, flats-build}
 use Rattle.theory.proofs.SidesRead.{low-call, high-call}
 use Rattle.theory.proofs.AcceptedExactly.{question-accepted-exactly}

@@ -1,22 +1,24 @@
 -- ACCEPTED EXACTLY: bytes are accepted where they are the encoding of a valid program, or of a valid question, and only there.
 use Prim.Native.Nat.{ℕ, zero, suc, _+_, _<_, _≤_}
 use mathlib.Core.Path.{_≡_, refl, sym, ap, ap₂, _∙_, subst}
-use mathlib.Core.Logic.{_↔_}
+use mathlib.Core.Logic.{_↔_, _⊎_, inl, inr}
 use mathlib.Core.Bool.{Bool, true, false, _&&_, _||_}
 use mathlib.Core.List.{List, [], _∷_, _++_, append-assoc, append-nil}
 use native.Mathlib.Omega.{arith}
-use lib.Dec.{eqb, leb, ltb, leb→le, ltb→lt, eqb→eq}
+use lib.Dec.{T, eqb, leb, ltb, leb→le, ltb→lt, eqb→eq}
 use lib.ListN.{length, length-append}
 use Rattle.theory.proofs.Lists.{none-left}
 use Rattle.theory.specs.Syntax.{Term, Pat, choose}
 use Rattle.theory.specs.Overlap.{overlaps}
 use Rattle.theory.specs.Proper.{patsVars, termVars}
-use Rattle.theory.specs.Bytes.{nthTerm, termsFrom, NextRecord, noneLeft, cutShort, nextIs, nextRecord, Result, good, refuse, ifGood, Declared, nthArity, onLeft, onRight, inQuestion, Side, readSide, RuleAt, patsOf, varsOf, Book, ruleCount, addLast, orRefuse, readRule, readTopRecord, readRecords, overlapsEarlier, refuseOverlaps, emptyBook, readProgram, readQuestion}
-use Rattle.theory.specs.Encoding.{encode, encodePats, encodeRule, encodeRules, encodeExns, encodeFuns, encodeProgram, Each, ValidQuestion, ValidRule, NotOverlapping, NoneOverlap, OpenedFrom, stageOf, Valid}
+use Rattle.theory.specs.Bytes.{nthTerm, termsFrom, NextRecord, noneLeft, cutShort, nextIs, nextRecord, Result, refused, good, refuse, ifGood, Declared, nthArity, Where, onLeft, onRight, inQuestion, Side, readSide, RuleAt, patsOf, varsOf, Book, ruleCount, addLast, orRefuse, readRule, readEnd, readTopRecord, readRecords, overlapsEarlier, refuseOverlaps, emptyBook, readProgram, readQuestion}
+use Rattle.theory.specs.Encoding.{encode, encodePats, encodeRule, encodeRules, encodeExns, encodeFuns, encodeProgram, Each, ValidQuestion, ValidRule, NotOverlapping, NoneOverlap, OpenedFrom, stageOf, Readable, EveryRuled, Valid}
 use Rattle.theory.proofs.Tests.{leb-true, eqb-true, eq-of-eqb, and-left, and-right}
-use Rattle.theory.proofs.Accepted.{Ok, choose-ok, within-ok, also-ok, ok-of}
+use Rattle.theory.proofs.SidesGive.{Ok, choose-ok, also-ok, ok-of}
 use Rattle.theory.proofs.RecordsOfTerms.{flats, flats-build, termsOf, pats-of}
-use Rattle.theory.proofs.SidesRead.{next-is, of-kind, TermReads, LeftReads, RightReads, left-reads, left-back, right-reads, right-back, asked-reads, asked-back, built, all-in, seen-same, ok-map, or-first, or-second, onto, IsNext}
+use Rattle.theory.proofs.SidesRead.{next-is, next-long, of-kind, TermReads, LeftReads, RightReads, left-reads, left-back, right-reads, right-back, asked-reads, asked-back, built, all-in, seen-same, ok-map, or-first, or-second, onto, IsNext}
+use Rattle.theory.proofs.SidesRefuse.{SideEnds, side-ends}
+use Rattle.theory.proofs.EndRecord.{EndSays, end-says, end-good}
 
 -- A QUESTION
 question-reads : (D : Declared) (q : List ℕ) → Ok (λ t. (q ≡ encode t) × ValidQuestion D t) (readQuestion D q)
@@ -76,7 +78,7 @@ each-last : {A : Type 0} (P : A → Type 0) (xs : List A) (x : A) → Each P (ad
 each-last P [] x h = h .0
 each-last P (y ∷ xs) x h = each-last P xs x (h .1)
 
-each-both : {A : Type 0} (P Q R : A → Type 0) (xs : List A) → ((x : A) → P x → Q x → R x) → Each P xs → Each Q xs → Each R xs
+pub each-both : {A : Type 0} (P Q R : A → Type 0) (xs : List A) → ((x : A) → P x → Q x → R x) → Each P xs → Each Q xs → Each R xs
 each-both P Q R [] f h k = tt
 each-both P Q R (x ∷ xs) f h k = (f x (h .0) (k .0), each-both P Q R xs f (h .1) (k .1))
 
@@ -128,8 +130,9 @@ withFun s c = record { stage = 1; decls = record { exceptions = s .decls .except
 abbrev pub withRule : Book → RuleAt → Book
 withRule s r = record { stage = 2; decls = s .decls; rulesAt = addLast (s .rulesAt) r }
 
-abbrev ending : List RuleAt → List ℕ
-ending rs = encodeRules rs ++ (0x04 ∷ [])
+-- the rules, the end record, and what is behind it
+abbrev pub ending : List RuleAt → List ℕ → List ℕ
+ending rs z = encodeRules rs ++ (0x04 ∷ z)
 
 abbrev stageFrom : ℕ → List ℕ → List RuleAt → ℕ
 stageFrom i ns (r ∷ rs) = 2
@@ -150,11 +153,12 @@ stage-start ns (r ∷ rs) = refl
 stage-start (a ∷ ns) [] = refl
 stage-start [] [] = refl
 
-count-length : (rs : List RuleAt) → ruleCount rs ≡ length rs
+pub count-length : (rs : List RuleAt) → ruleCount rs ≡ length rs
 count-length [] = refl
 count-length (r ∷ rs) = ap suc (count-length rs)
 
-record Grown (s : Book) (p : ℕ) (bs : List ℕ) (s′ : Book) : Type 0 where
+-- what is read from the bytes up to the end record, where z is what is behind it
+record Grown (s : Book) (p : ℕ) (bs z : List ℕ) (s′ : Book) : Type 0 where
   exns : ℕ
   funs : List ℕ
   rules : List RuleAt
@@ -170,14 +174,14 @@ record Grown (s : Book) (p : ℕ) (bs : List ℕ) (s′ : Book) : Type 0 where
   valid : Each (ValidRule (s′ .decls)) rules
   opened : OpenedFrom (p + (length (encodeExns (s .decls .exceptions) exns) + length (encodeFuns (length (s .decls .arities)) funs))) rules
   stage : s′ .stage ≡ stageFrom (s .stage) funs rules
-  bytes : bs ≡ encodeExns (s .decls .exceptions) exns ++ (encodeFuns (length (s .decls .arities)) funs ++ ending rules)
+  bytes : bs ≡ encodeExns (s .decls .exceptions) exns ++ (encodeFuns (length (s .decls .arities)) funs ++ ending rules z)
 
 opened-at : (p q : ℕ) (rs : List RuleAt) → p ≡ q → OpenedFrom p rs → OpenedFrom q rs
 opened-at p q rs e h = subst (λ (i : ℕ). OpenedFrom i rs) e h
 
-grown-exn : (s : Book) (p b n : ℕ) (bs rest : List ℕ) (s′ : Book) → (bs ≡ 0x01 ∷ b ∷ rest) × (n ≡ 2) → s .stage ≡ 0 → s .decls .exceptions < 16 → b ≡ s .decls .exceptions
-    → Grown (withExn s) (p + n) rest s′ → Grown s p bs s′
-grown-exn s p b n bs rest s′ i z few e g =
+grown-exn : (s : Book) (p b n : ℕ) (bs rest z : List ℕ) (s′ : Book) → (bs ≡ 0x01 ∷ b ∷ rest) × (n ≡ 2) → s .stage ≡ 0 → s .decls .exceptions < 16 → b ≡ s .decls .exceptions
+    → Grown (withExn s) (p + n) rest z s′ → Grown s p bs z s′
+grown-exn s p b n bs rest z s′ i st few e g =
     let e0 = s .decls .exceptions in
     let two = i .1 in
     record {
@@ -187,21 +191,21 @@ grown-exn s p b n bs rest s′ i z few e g =
       all-exns = let a = g .all-exns in omega (arith, a);
       all-funs = g .all-funs;
       all-rules = g .all-rules;
-      no-exns = λ l. absurd (omega (arith, l, z));
-      no-funs = λ l. absurd (omega (arith, l, z));
+      no-exns = λ l. absurd (omega (arith, l, st));
+      no-funs = λ l. absurd (omega (arith, l, st));
       few = λ l. (let a = g .few few in omega (arith, a));
       functions = g .functions;
       small = g .small;
       number = g .number;
       valid = g .valid;
       opened = opened-at (p + n + (length (encodeExns (suc e0) (g .exns)) + length (encodeFuns (length (s .decls .arities)) (g .funs)))) _ (g .rules) (omega (arith, two)) (g .opened);
-      stage = g .stage ∙ ap (λ (j : ℕ). stageFrom j (g .funs) (g .rules)) (sym z);
+      stage = g .stage ∙ ap (λ (j : ℕ). stageFrom j (g .funs) (g .rules)) (sym st);
       bytes = i .0 ∙ ap₂ (λ (j : ℕ) (l : List ℕ). 0x01 ∷ j ∷ l) e (g .bytes);
     }
 
-grown-fun : (s : Book) (p b c n : ℕ) (bs rest : List ℕ) (s′ : Book) → (bs ≡ 0x02 ∷ b ∷ c ∷ rest) × (n ≡ 3) → s .stage ≤ 1 → length (s .decls .arities) < 32
-    → b ≡ length (s .decls .arities) → c ≤ 4 → Grown (withFun s c) (p + n) rest s′ → Grown s p bs s′
-grown-fun s p b c n bs rest s′ i z few e low g =
+grown-fun : (s : Book) (p b c n : ℕ) (bs rest z : List ℕ) (s′ : Book) → (bs ≡ 0x02 ∷ b ∷ c ∷ rest) × (n ≡ 3) → s .stage ≤ 1 → length (s .decls .arities) < 32
+    → b ≡ length (s .decls .arities) → c ≤ 4 → Grown (withFun s c) (p + n) rest z s′ → Grown s p bs z s′
+grown-fun s p b c n bs rest z s′ i st few e low g =
     let ns = s .decls .arities in
     let e0 = s .decls .exceptions in
     let three = i .1 in
@@ -217,7 +221,7 @@ grown-fun s p b c n bs rest s′ i z few e low g =
       all-funs = g .all-funs ∙ append-assoc ns (c ∷ []) (g .funs);
       all-rules = g .all-rules;
       no-exns = λ l. refl;
-      no-funs = λ l. absurd (omega (arith, l, z));
+      no-funs = λ l. absurd (omega (arith, l, st));
       few = λ l. omega (arith, l);
       functions = λ l. (let a = g .functions (omega (arith, m, few)) in omega (arith, a, m));
       small = (low, g .small);
@@ -229,14 +233,14 @@ grown-fun s p b c n bs rest s′ i z few e low g =
           i .0
           ∙ ap₂ (λ (j : ℕ) (l : List ℕ). 0x02 ∷ j ∷ c ∷ l) e
           (g .bytes
-          ∙ ap (λ (j : ℕ). encodeExns e0 j ++ (encodeFuns (length (addLast ns c)) (g .funs) ++ ending (g .rules))) none
-          ∙ ap (λ (j : ℕ). encodeFuns j (g .funs) ++ ending (g .rules)) m);
+          ∙ ap (λ (j : ℕ). encodeExns e0 j ++ (encodeFuns (length (addLast ns c)) (g .funs) ++ ending (g .rules) z)) none
+          ∙ ap (λ (j : ℕ). encodeFuns j (g .funs) ++ ending (g .rules) z) m);
     }
 
-grown-rule : (s : Book) (p n : ℕ) (bs rest : List ℕ) (r : RuleAt) (q : ℕ) (behind : List ℕ) (s′ : Book) → (bs ≡ 0x03 ∷ r .owner ∷ rest) × (n ≡ 2) → length (s .rulesAt) < 64
+grown-rule : (s : Book) (p n : ℕ) (bs rest : List ℕ) (r : RuleAt) (q : ℕ) (behind z : List ℕ) (s′ : Book) → (bs ≡ 0x03 ∷ r .owner ∷ rest) × (n ≡ 2) → length (s .rulesAt) < 64
     → r .opened ≡ p → ValidRule (s .decls) r → q ≡ p + n + length (encodePats (r .sides .left)) + length (encode (r .sides .right))
-    → rest ≡ encodePats (r .sides .left) ++ (encode (r .sides .right) ++ behind) → Grown (withRule s r) q behind s′ → Grown s p bs s′
-grown-rule s p n bs rest r q behind s′ i few o v e w g =
+    → rest ≡ encodePats (r .sides .left) ++ (encode (r .sides .right) ++ behind) → Grown (withRule s r) q behind z s′ → Grown s p bs z s′
+grown-rule s p n bs rest r q behind z s′ i few o v e w g =
     let ns = s .decls .arities in
     let e0 = s .decls .exceptions in
     let L = encodePats (r .sides .left) in
@@ -251,8 +255,8 @@ grown-rule s p n bs rest r q behind s′ i few o v e w g =
     let d : s′ .decls ≡ s .decls = ap₂ (λ (j : ℕ) (l : List ℕ). record { exceptions = j; arities = l }) d1 d2 in
     let m = length-append (s .rulesAt) (r ∷ []) in
     let k = length-append L R in
-    let tail : behind ≡ ending (g .rules) =
-    g .bytes ∙ ap₂ (λ (j : ℕ) (l : List ℕ). encodeExns e0 j ++ (encodeFuns (length ns) l ++ ending (g .rules))) noE noF in
+    let tail : behind ≡ ending (g .rules) z =
+    g .bytes ∙ ap₂ (λ (j : ℕ) (l : List ℕ). encodeExns e0 j ++ (encodeFuns (length ns) l ++ ending (g .rules) z)) noE noF in
     record {
       exns = 0;
       funs = [];
@@ -274,12 +278,12 @@ grown-rule s p n bs rest r q behind s′ i few o v e w g =
           ∙ ap (λ (l : List ℕ). 0x03 ∷ r .owner ∷ l)
           (w
           ∙ ap (λ (l : List ℕ). L ++ (R ++ l)) tail
-          ∙ sym (append-assoc L R (ending (g .rules)))
-          ∙ sym (append-assoc (L ++ R) (encodeRules (g .rules)) (0x04 ∷ [])));
+          ∙ sym (append-assoc L R (ending (g .rules) z))
+          ∙ sym (append-assoc (L ++ R) (encodeRules (g .rules)) (0x04 ∷ z)));
     }
 
-grown-end : (s : Book) (p n : ℕ) (bs rest : List ℕ) → (bs ≡ 0x04 ∷ rest) × (n ≡ 1) → rest ≡ [] → Grown s p bs s
-grown-end s p n bs rest i e =
+grown-end : (s : Book) (p n : ℕ) (bs rest : List ℕ) → (bs ≡ 0x04 ∷ rest) × (n ≡ 1) → Grown s p bs rest s
+grown-end s p n bs rest i =
     record {
       exns = 0;
       funs = [];
@@ -296,30 +300,88 @@ grown-end s p n bs rest i e =
       valid = tt;
       opened = tt;
       stage = refl;
-      bytes = i .0 ∙ ap (0x04 ∷_) e;
+      bytes = i .0;
     }
 
+-- THE RECORDS, with m the place behind all bytes, come to a refusal by a number from 2 to 9 before the end record; or to what the end record says
+-- of the book that was read
+abbrev pub RefusedEarly : ℕ → Result Book → Type 0
+RefusedEarly m (refused r) = (2 ≤ r .number) × (r .number ≤ 9) × (r .place ≤ m)
+RefusedEarly m (good s) = ⊥
+
+pub record Ended (m : ℕ) (G : List ℕ → Book → Type 0) (r : Result Book) : Type 0 where
+  pub behind : List ℕ
+  pub book : Book
+  pub at : ℕ
+  pub grown : G behind book
+  pub rest : at + length behind ≡ m
+  pub said : r ≡ readEnd book at behind
+
+abbrev pub Ends : ℕ → (List ℕ → Book → Type 0) → Result Book → Type 0
+Ends m G r = RefusedEarly m r ⊎ Ended m G r
+
+choose-ends : (m : ℕ) (G : List ℕ → Book → Type 0) (b : Bool) (x y : Unit {0} → Result Book) → (T b → Ends m G (x tt)) → Ends m G (y tt) → Ends m G (choose b x y)
+choose-ends m G true x y h k = h tt
+choose-ends m G false x y h k = k
+
+within-ends : (m : ℕ) (G : List ℕ → Book → Type 0) (b : Bool) (n p : ℕ) (x : Unit {0} → Result Book) → p ≤ m → 2 ≤ n → n ≤ 9 → (T b → Ends m G (x tt)) → Ends m G (orRefuse b n p x)
+within-ends m G true n p x l i j h = h tt
+within-ends m G false n p x l i j h = inl (i, j, l)
+
+ends-map : (m k : ℕ) (F G : List ℕ → Book → Type 0) (r : Result Book) → k ≡ m → ((z : List ℕ) (s : Book) → F z s → G z s) → Ends k F r → Ends m G r
+ends-map m k F G r e f (inl h) = inl (subst (λ (i : ℕ). RefusedEarly i r) e h)
+ends-map m k F G r e f (inr h) = inr (record { behind = h .behind; book = h .book; at = h .at; grown = f (h .behind) (h .book) (h .grown); rest = h .rest ∙ e; said = h .said })
+
+-- a side is refused early, or what it reads goes on
+side-then : (Q : Side → Type 0) (m : ℕ) (G : List ℕ → Book → Type 0) (w : Where) (count p : ℕ) (bs : List ℕ) (r : Result Side) (f : Side → Result Book)
+    → p + length bs ≡ m → SideEnds w count p bs r → Ok Q r → ((a : Side) → Q a → Ends m G (f a)) → Ends m G (ifGood r f)
+side-then Q m G w count p bs (refused x) f e l h k =
+    let i = l .from in
+    let j = l .to in
+    let b = l .in-bytes in
+    inl (i, omega (arith, j), omega (arith, b, e))
+side-then Q m G w count p bs (good a) f e l h k = k a h
+
 abbrev Grows : ℕ → Type 0
-Grows fuel = (s : Book) (p : ℕ) (bs : List ℕ) → Ok (Grown s p bs) (readRecords fuel s p bs)
+Grows fuel = (s : Book) (p : ℕ) (bs : List ℕ) → Ends (p + length bs) (Grown s p bs) (readRecords fuel s p bs)
+
+-- behind a part, its place and the bytes left come to the same
+behind-part : (q p : ℕ) (bs front rest : List ℕ) → q ≡ p + length front → bs ≡ front ++ rest → q + length rest ≡ p + length bs
+behind-part q p bs front rest e f =
+    let a : length bs ≡ length (front ++ rest) = ap length f in
+    let b = length-append front rest in
+    omega (arith, a, b, e)
 
 -- a rule's two sides, and what is behind them
 sides-grow : (fuel : ℕ) (s : Book) (p b n : ℕ) (bs rest : List ℕ) → (bs ≡ 0x03 ∷ b ∷ rest) × (n ≡ 2) → length (s .rulesAt) < 64 → b < length (s .decls .arities) → Grows fuel
-    → Ok (Grown s p bs) (readRule fuel s b p (p + n) rest (λ r q behind. readRecords fuel (withRule s r) q behind))
+    → Ends (p + length bs) (Grown s p bs) (readRule fuel s b p (p + n) rest (λ r q behind. readRecords fuel (withRule s r) q behind))
 sides-grow fuel s p b n bs rest i few low ih =
-    also-ok (LeftReads D a (p + n) rest) (Grown s p bs) (readSide D fuel (onLeft []) a 1 (p + n) rest) _ (left-reads D fuel a (p + n) rest)
-    (λ l hl. also-ok (RightReads D (varsOf (l .seen)) (l .from) (l .rest)) (Grown s p bs) (readSide D fuel (onRight (varsOf (l .seen))) 1 0 (l .from) (l .rest)) _
-    (right-reads D fuel (varsOf (l .seen)) (l .from) (l .rest))
-    (λ r hr. ok-map (Grown (withRule s (made l r)) (r .from) (r .rest)) (Grown s p bs) (readRecords fuel (withRule s (made l r)) (r .from) (r .rest))
-    (λ s′ g. grown-rule s p n bs rest (made l r) (r .from) (r .rest) s′ i few refl (valid l r hl hr)
+    side-then (LeftReads D a (p + n) rest) m (Grown s p bs) (onLeft []) 1 (p + n) rest (readSide D fuel (onLeft []) a 1 (p + n) rest) _ whole
+    (side-ends D fuel (onLeft []) a 1 (p + n) rest) (left-reads D fuel a (p + n) rest)
+    (λ l hl. (let from = behind-part (l .from) (p + n) rest (encodePats (patsOf (termsFrom (l .records)))) (l .rest) (hl .place) (hl .spelt) ∙ whole in
+    side-then (RightReads D (varsOf (l .seen)) (l .from) (l .rest)) m (Grown s p bs) (onRight (varsOf (l .seen))) 0 (l .from) (l .rest) (readSide D fuel (onRight (varsOf (l .seen))) 1 0 (l .from) (l .rest)) _ from
+    (side-ends D fuel (onRight (varsOf (l .seen))) 1 0 (l .from) (l .rest)) (right-reads D fuel (varsOf (l .seen)) (l .from) (l .rest))
+    (λ r hr. ends-map m (r .from + length (r .rest)) (Grown (withRule s (made l r)) (r .from) (r .rest)) (Grown s p bs) (readRecords fuel (withRule s (made l r)) (r .from) (r .rest))
+    (behind-part (r .from) (l .from) (l .rest) (encode (nthTerm (termsFrom (r .records)) 0)) (r .rest) (hr .place) (hr .spelt) ∙ from)
+    (λ z s′ g. grown-rule s p n bs rest (made l r) (r .from) (r .rest) z s′ i few refl (valid l r hl hr)
     (hr .place ∙ ap (λ (j : ℕ). j + length (encode (nthTerm (termsFrom (r .records)) 0))) (hl .place))
     (hl .spelt ∙ ap (encodePats (patsOf (termsFrom (l .records))) ++_) (hr .spelt)) g)
-    (ih (withRule s (made l r)) (r .from) (r .rest))))
+    (ih (withRule s (made l r)) (r .from) (r .rest)))))
   where
     D : Declared
     D = s .decls
 
     a : ℕ
     a = nthArity (s .decls .arities) b
+
+    m : ℕ
+    m = p + length bs
+
+    whole : p + n + length rest ≡ p + length bs
+    whole =
+        let e : length bs ≡ length (0x03 ∷ b ∷ rest) = ap length (i .0) in
+        let two = i .1 in
+        omega (arith, e, two)
 
     made : Side → Side → RuleAt
     made l r = record { owner = b; opened = p; sides = record { left = patsOf (termsFrom (l .records)); right = nthTerm (termsFrom (r .records)) 0 } }
@@ -339,79 +401,123 @@ sides-grow fuel s p b n bs rest i few low ih =
         }
 
 top-grows : (fuel : ℕ) → Grows fuel
-top-grows zero s p bs = tt
+top-grows zero s p bs = inl (omega arith, omega arith, omega arith)
 top-grows (suc fuel) s p bs = go (nextRecord bs) (next-is bs) (top-grows fuel)
   where
     D : Declared
     D = s .decls
 
-    G : Book → Type 0
+    G : List ℕ → Book → Type 0
     G = Grown s p bs
 
-    go : (x : NextRecord) → IsNext bs x → Grows fuel → Ok (Grown s p bs) (readTopRecord fuel (readRecords fuel) s p x)
-    go noneLeft i ih = tt
-    go cutShort i ih = tt
+    m : ℕ
+    m = p + length bs
+
+    test : (b : Bool) (n : ℕ) (x : Unit {0} → Result Book) → T (leb 2 n && leb n 9) → (T b → Ends (p + length bs) (Grown s p bs) (x tt)) → Ends (p + length bs) (Grown s p bs) (orRefuse b n p x)
+    test b n x t = within-ends (p + length bs) (Grown s p bs) b n p x (omega arith) (leb→le 2 n (and-left (leb 2 n) (leb n 9) t)) (leb→le n 9 (and-right (leb 2 n) (leb n 9) t))
+
+    go : (x : NextRecord) → IsNext bs x → Grows fuel → Ends (p + length bs) (Grown s p bs) (readTopRecord fuel (readRecords fuel) s p x)
+    go noneLeft i ih = inl (omega arith, omega arith, omega arith)
+    go cutShort i ih = inl (omega arith, omega arith, omega arith)
     go (nextIs k b c n rest) i ih =
-        choose-ok G (eqb k 1) _ _
-        (λ k1. within-ok G (eqb (s .stage) 0) 3 p _ (λ z. within-ok G (ltb (D .exceptions) 16) 9 p _ (λ few. within-ok G (eqb b (D .exceptions)) 4 p _
-        (λ e. ok-map (Grown (withExn s) (p + n) rest) G (readRecords fuel (withExn s) (p + n) rest)
-        (λ s′ g. grown-exn s p b n bs rest s′ (of-kind 1 k b c n bs rest (eqb→eq k 1 k1) i) (eqb→eq (s .stage) 0 z) (ltb→lt (D .exceptions) 16 few) (eqb→eq b (D .exceptions) e) g)
+        let l = next-long bs k b c n rest i .0 in
+        let whole : p + n + length rest ≡ p + length bs = omega (arith, l) in
+        choose-ends m G (eqb k 1) _ _
+        (λ k1. test (eqb (s .stage) 0) 3 _ tt (λ st. test (ltb (D .exceptions) 16) 9 _ tt (λ few. test (eqb b (D .exceptions)) 4 _ tt
+        (λ e. ends-map m (p + n + length rest) (Grown (withExn s) (p + n) rest) G (readRecords fuel (withExn s) (p + n) rest) whole
+        (λ z s′ g. grown-exn s p b n bs rest z s′ (of-kind 1 k b c n bs rest (eqb→eq k 1 k1) i) (eqb→eq (s .stage) 0 st) (ltb→lt (D .exceptions) 16 few) (eqb→eq b (D .exceptions) e) g)
         (ih (withExn s) (p + n) rest)))))
-        (choose-ok G (eqb k 2) _ _
-        (λ k2. within-ok G (leb (s .stage) 1) 3 p _ (λ z. within-ok G (ltb (length (D .arities)) 32) 9 p _ (λ few. within-ok G (eqb b (length (D .arities)) && leb c 4) 4 p _
-        (λ e. ok-map (Grown (withFun s c) (p + n) rest) G (readRecords fuel (withFun s c) (p + n) rest)
-        (λ s′ g. grown-fun s p b c n bs rest s′ (of-kind 2 k b c n bs rest (eqb→eq k 2 k2) i) (leb→le (s .stage) 1 z) (ltb→lt (length (D .arities)) 32 few)
+        (choose-ends m G (eqb k 2) _ _
+        (λ k2. test (leb (s .stage) 1) 3 _ tt (λ st. test (ltb (length (D .arities)) 32) 9 _ tt (λ few. test (eqb b (length (D .arities)) && leb c 4) 4 _ tt
+        (λ e. ends-map m (p + n + length rest) (Grown (withFun s c) (p + n) rest) G (readRecords fuel (withFun s c) (p + n) rest) whole
+        (λ z s′ g. grown-fun s p b c n bs rest z s′ (of-kind 2 k b c n bs rest (eqb→eq k 2 k2) i) (leb→le (s .stage) 1 st) (ltb→lt (length (D .arities)) 32 few)
         (eqb→eq b (length (D .arities)) (and-left (eqb b (length (D .arities))) (leb c 4) e)) (leb→le c 4 (and-right (eqb b (length (D .arities))) (leb c 4) e)) g)
         (ih (withFun s c) (p + n) rest)))))
-        (choose-ok G (eqb k 3) _ _
-        (λ k3. within-ok G (ltb (ruleCount (s .rulesAt)) 64) 9 p _ (λ few. within-ok G (ltb b (length (D .arities))) 4 p _
+        (choose-ends m G (eqb k 3) _ _
+        (λ k3. test (ltb (ruleCount (s .rulesAt)) 64) 9 _ tt (λ few. test (ltb b (length (D .arities))) 4 _ tt
         (λ low. sides-grow fuel s p b n bs rest (of-kind 3 k b c n bs rest (eqb→eq k 3 k3) i) (subst (λ (j : ℕ). j < 64) (count-length (s .rulesAt)) (ltb→lt (ruleCount (s .rulesAt)) 64 few))
         (ltb→lt b (length (D .arities)) low) ih)))
-        (choose-ok G (eqb k 4) _ _
-        (λ k4. choose-ok G (eqb (length rest) 0) _ _ (λ e. grown-end s p n bs rest (of-kind 4 k b c n bs rest (eqb→eq k 4 k4) i) (none-left rest (eqb→eq (length rest) 0 e))) tt) tt)))
+        (choose-ends m G (eqb k 4) _ _
+        (λ k4. inr (record { behind = rest; book = s; at = p + n; grown = grown-end s p n bs rest (of-kind 4 k b c n bs rest (eqb→eq k 4 k4) i); rest = whole; said = refl })) (inl (omega arith, omega arith, omega arith)))))
+
+-- a program's bytes with anything behind them
+pub encoded-behind : (s : Book) (z : List ℕ) → encodeProgram s ++ z ≡ encodeExns 0 (s .decls .exceptions) ++ (encodeFuns 0 (s .decls .arities) ++ ending (s .rulesAt) z)
+encoded-behind s z =
+    let E = encodeExns 0 (s .decls .exceptions) in
+    let F = encodeFuns 0 (s .decls .arities) in
+    let R = encodeRules (s .rulesAt) in
+    append-assoc E (F ++ (R ++ (0x04 ∷ []))) z ∙ ap (E ++_) (append-assoc F (R ++ (0x04 ∷ [])) z ∙ ap (F ++_) (append-assoc R (0x04 ∷ []) z))
+
+-- the bytes through the end record are a readable program's
+abbrev pub ReadFrom : List ℕ → List ℕ → Book → Type 0
+ReadFrom p z s = (p ≡ encodeProgram s ++ z) × Readable s
+
+read-from : (p z : List ℕ) (s : Book) → Grown emptyBook 0 p z s → ReadFrom p z s
+read-from p z s g =
+    let x : g .exns ≡ s .decls .exceptions = (let a = g .all-exns in omega (arith, a)) in
+    let y : g .funs ≡ s .decls .arities = sym (g .all-funs) in
+    let w : g .rules ≡ s .rulesAt = sym (g .all-rules) in
+    let few = g .few (omega arith) in
+    let functions = g .functions (omega arith) in
+    let number = g .number (omega arith) in
+    let m : length (g .funs) ≡ length (s .decls .arities) = ap length y in
+    let n : length (g .rules) ≡ length (s .rulesAt) = ap length w in
+    let e : p ≡ encodeExns 0 (s .decls .exceptions) ++ (encodeFuns 0 (s .decls .arities) ++ ending (s .rulesAt) z) =
+    g .bytes
+    ∙ ap (λ (j : ℕ). encodeExns 0 j ++ (encodeFuns 0 (g .funs) ++ ending (g .rules) z)) x
+    ∙ ap₂ (λ (ns : List ℕ) (rs : List RuleAt). encodeExns 0 (s .decls .exceptions) ++ (encodeFuns 0 ns ++ ending rs z)) y w in
+    let u : 0 + (length (encodeExns 0 (g .exns)) + length (encodeFuns 0 (g .funs))) ≡ length (encodeExns 0 (s .decls .exceptions)) + length (encodeFuns 0 (s .decls .arities)) =
+    (let a = ap (λ (j : ℕ). length (encodeExns 0 j)) x in let b = ap (λ (ns : List ℕ). length (encodeFuns 0 ns)) y in omega (arith, a, b)) in (
+      e ∙ sym (encoded-behind s z),
+      record {
+        exceptions = omega (arith, few, x);
+        functions = omega (arith, functions, m);
+        arities = subst (Each (λ a. a ≤ 4)) y (g .small);
+        rules = omega (arith, number, n);
+        each-rule = subst (Each (ValidRule (s .decls))) w (g .valid);
+        opened = subst (OpenedFrom (length (encodeExns 0 (s .decls .exceptions)) + length (encodeFuns 0 (s .decls .arities)))) w (opened-at _ _ (g .rules) u (g .opened));
+        stage = g .stage ∙ stage-start (g .funs) (g .rules) ∙ ap₂ stageOf y w;
+      },
+    )
+
+pub records-end : (p : List ℕ) → Ends (length p) (ReadFrom p) (readRecords (suc (length p)) emptyBook 0 p)
+records-end p =
+    ends-map (length p) (0 + length p) (Grown emptyBook 0 p) (ReadFrom p) (readRecords (suc (length p)) emptyBook 0 p) (omega arith) (read-from p) (top-grows (suc (length p)) emptyBook 0 p)
+
+-- where the records are read, with nothing refused, they are a readable program's whose functions all have rules, and nothing is behind them
+abbrev pub AllRead : List ℕ → Book → Type 0
+AllRead p s = (p ≡ encodeProgram s) × Readable s × EveryRuled s
+
+all-read : (p : List ℕ) (r : Result Book) → Ends (length p) (ReadFrom p) r → Ok (AllRead p) r
+all-read p (refused x) h = tt
+all-read p (good s) (inl h) = absurd h
+all-read p (good s) (inr h) = go (subst (EndSays t (h .at) z) (sym (h .said)) (end-says t (h .at) z))
+  where
+    t : Book
+    t = h .book
+
+    z : List ℕ
+    z = h .behind
+
+    go : EndSays (h .book) (h .at) (h .behind) (good s) → AllRead p s
+    go k = subst (AllRead p) (k .0) (h .grown .0 ∙ ap (encodeProgram t ++_) (k .1) ∙ append-nil (encodeProgram t), h .grown .1, k .2)
+
+pub records-read : (p : List ℕ) → Ok (AllRead p) (readRecords (suc (length p)) emptyBook 0 p)
+records-read p = all-read p (readRecords (suc (length p)) emptyBook 0 p) (records-end p)
 
 -- an accepted program is encoded, and valid
 program-reads : (p : List ℕ) → Ok (λ s. (p ≡ encodeProgram s) × Valid s) (readProgram p)
 unfolding readProgram
 program-reads p =
     choose-ok Q (leb (length p) 8192) _ _
-    (λ l. also-ok (Grown emptyBook 0 p) Q (readRecords (suc (length p)) emptyBook 0 p) _ (top-grows (suc (length p)) emptyBook 0 p)
+    (λ l. also-ok (AllRead p) Q (readRecords (suc (length p)) emptyBook 0 p) _ (records-read p)
     (λ s g. also-ok (λ u. Clear [] (s .rulesAt)) Q (refuseOverlaps [] (s .rulesAt)) _ (overlap-reads [] (s .rulesAt))
-    (λ u c. made s (leb→le (length p) 8192 l) g (c .1)))) tt
+    (λ u c. (let n : length p ≡ length (encodeProgram s) = ap length (g .0) in
+    let m = leb→le (length p) 8192 l in
+    (g .0, record { readable = g .1; every-function = g .2; none-overlap = c .1; bytes = omega (arith, m, n) }))))) tt
   where
     Q : Book → Type 0
     Q s = (p ≡ encodeProgram s) × Valid s
-
-    made : (s : Book) → length p ≤ 8192 → Grown emptyBook 0 p s → NoneOverlap (s .rulesAt) → (p ≡ encodeProgram s) × Valid s
-    made s l g c =
-        let x : g .exns ≡ s .decls .exceptions = (let a = g .all-exns in omega (arith, a)) in
-        let y : g .funs ≡ s .decls .arities = sym (g .all-funs) in
-        let z : g .rules ≡ s .rulesAt = sym (g .all-rules) in
-        let few = g .few (omega arith) in
-        let functions = g .functions (omega arith) in
-        let number = g .number (omega arith) in
-        let m : length (g .funs) ≡ length (s .decls .arities) = ap length y in
-        let n : length (g .rules) ≡ length (s .rulesAt) = ap length z in
-        let e : p ≡ encodeProgram s =
-        g .bytes
-        ∙ ap (λ (j : ℕ). encodeExns 0 j ++ (encodeFuns 0 (g .funs) ++ ending (g .rules))) x
-        ∙ ap₂ (λ (ns : List ℕ) (rs : List RuleAt). encodeExns 0 (s .decls .exceptions) ++ (encodeFuns 0 ns ++ ending rs)) y z in
-        let w : length p ≡ length (encodeProgram s) = ap length e in
-        let u : 0 + (length (encodeExns 0 (g .exns)) + length (encodeFuns 0 (g .funs))) ≡ length (encodeExns 0 (s .decls .exceptions)) + length (encodeFuns 0 (s .decls .arities)) =
-        (let a = ap (λ (j : ℕ). length (encodeExns 0 j)) x in let b = ap (λ (ns : List ℕ). length (encodeFuns 0 ns)) y in omega (arith, a, b)) in (
-          e,
-          record {
-            exceptions = omega (arith, few, x);
-            functions = omega (arith, functions, m);
-            arities = subst (Each (λ a. a ≤ 4)) y (g .small);
-            rules = omega (arith, number, n);
-            each-rule = subst (Each (ValidRule (s .decls))) z (g .valid);
-            none-overlap = c;
-            bytes = omega (arith, l, w);
-            opened = subst (OpenedFrom (length (encodeExns 0 (s .decls .exceptions)) + length (encodeFuns 0 (s .decls .arities)))) z (opened-at _ _ (g .rules) u (g .opened));
-            stage = g .stage ∙ stage-start (g .funs) (g .rules) ∙ ap₂ stageOf y z;
-          },
-        )
 
 -- AND THE OTHER WAY: the records of a valid program are read
 within-true : {A : Type 0} (b : Bool) (n p : ℕ) (go : Unit {0} → Result A) → b ≡ true → orRefuse b n p go ≡ go tt
@@ -452,85 +558,112 @@ sides-back fuel s r p rest go v f =
     second l = ifGood (readSide (s .decls) fuel (onRight (varsOf (l .seen))) 1 0 (l .from) (l .rest))
         (λ x. go (record { owner = r .owner; opened = r .opened; sides = record { left = patsOf (termsFrom (l .records)); right = nthTerm (termsFrom (x .records)) 0 } }) (x .from) (x .rest))
 
-rules-back : (rs : List RuleAt) (fuel : ℕ) (s : Book) (p : ℕ) → Each (ValidRule (s .decls)) rs → OpenedFrom p rs → length (s .rulesAt) + length rs ≤ 64 → length (ending rs) ≤ fuel
-    → readRecords fuel s p (ending rs) ≡ good (record { stage = stageFrom (s .stage) [] rs; decls = s .decls; rulesAt = s .rulesAt ++ rs })
-rules-back [] zero s p v o n f = absurd (omega (arith, f))
-rules-back [] (suc fuel) s p v o n f = ap (λ (l : List RuleAt). good (record { stage = s .stage; decls = s .decls; rulesAt = l })) (sym (append-nil (s .rulesAt)))
-rules-back (r ∷ rs) zero s p v o n f = absurd (omega (arith, f))
-rules-back (r ∷ rs) (suc fuel) s p v o n f =
+end-at : (s : Book) (p q : ℕ) (z : List ℕ) → p ≡ q → readEnd s p z ≡ readEnd s q z
+end-at s p q z e = ap (λ (i : ℕ). readEnd s i z) e
+
+rules-back : (rs : List RuleAt) (z : List ℕ) (fuel : ℕ) (s : Book) (p : ℕ) → Each (ValidRule (s .decls)) rs → OpenedFrom p rs → length (s .rulesAt) + length rs ≤ 64 → length (ending rs z) ≤ fuel
+    → readRecords fuel s p (ending rs z) ≡ readEnd (record { stage = stageFrom (s .stage) [] rs; decls = s .decls; rulesAt = s .rulesAt ++ rs }) (p + length (encodeRules rs) + 1) z
+rules-back [] z zero s p v o n f = absurd (omega (arith, f))
+rules-back [] z (suc fuel) s p v o n f =
+    let e : p + 1 ≡ p + 0 + 1 = omega arith in
+    ap₂ (λ (l : List RuleAt) (q : ℕ). readEnd (record { stage = s .stage; decls = s .decls; rulesAt = l }) q z) (sym (append-nil (s .rulesAt))) e
+rules-back (r ∷ rs) z zero s p v o n f = absurd (omega (arith, f))
+rules-back (r ∷ rs) z (suc fuel) s p v o n f =
     let D = s .decls in
     let L = encodePats (r .sides .left) in
     let R = encode (r .sides .right) in
     let go : RuleAt → ℕ → List ℕ → Result Book = λ x q rest. readRecords fuel (withRule s x) q rest in
-    let e : (((L ++ R) ++ encodeRules rs) ++ (0x04 ∷ [])) ≡ L ++ (R ++ ending rs) =
-    append-assoc (L ++ R) (encodeRules rs) (0x04 ∷ []) ∙ append-assoc L R (ending rs) in
+    let e : (((L ++ R) ++ encodeRules rs) ++ (0x04 ∷ z)) ≡ L ++ (R ++ ending rs z) =
+    append-assoc (L ++ R) (encodeRules rs) (0x04 ∷ z) ∙ append-assoc L R (ending rs z) in
     let a = length-append (L ++ R) (encodeRules rs) in
-    let b = length-append ((L ++ R) ++ encodeRules rs) (0x04 ∷ []) in
+    let b = length-append ((L ++ R) ++ encodeRules rs) (0x04 ∷ z) in
     let c = length-append L R in
-    let d = length-append (encodeRules rs) (0x04 ∷ []) in
+    let d = length-append (encodeRules rs) (0x04 ∷ z) in
     let h = count-length (s .rulesAt) in
     let k = length-append (s .rulesAt) (r ∷ []) in
     let i = o .0 in
     let q : p + length (encodeRule r) ≡ p + 2 + length L + length R = omega (arith, c) in
+    let w : p + 2 + length L + length R + length (encodeRules rs) + 1 ≡ p + length (encodeRules (r ∷ rs)) + 1 = omega (arith, a, c) in
     within-true (ltb (ruleCount (s .rulesAt)) 64) 9 p _ (leb-true (suc (ruleCount (s .rulesAt))) 64 (omega (arith, h, n)))
     ∙ within-true (ltb (r .owner) (length (D .arities))) 4 p _ (leb-true (suc (r .owner)) (length (D .arities)) (v .0 .declared))
     ∙ ap₂ (λ (j : ℕ) (l : List ℕ). readRule fuel s (r .owner) j (p + 2) l go) (sym i) e
-    ∙ sides-back fuel s r (p + 2) (ending rs) go (v .0) (omega (arith, a, b, c, f))
-    ∙ rules-back rs fuel (withRule s r) (p + 2 + length L + length R) (v .1) (opened-at (p + length (encodeRule r)) _ rs q (o .1)) (omega (arith, k, n)) (omega (arith, a, b, c, d, f))
-    ∙ ap₂ (λ (j : ℕ) (l : List RuleAt). good (record { stage = j; decls = D; rulesAt = l })) (stage-rule rs) (append-assoc (s .rulesAt) (r ∷ []) rs)
+    ∙ sides-back fuel s r (p + 2) (ending rs z) go (v .0) (omega (arith, a, b, c, f))
+    ∙ rules-back rs z fuel (withRule s r) (p + 2 + length L + length R) (v .1) (opened-at (p + length (encodeRule r)) _ rs q (o .1)) (omega (arith, k, n)) (omega (arith, a, b, c, d, f))
+    ∙ ap₂ (λ (j : ℕ) (l : List RuleAt). readEnd (record { stage = j; decls = D; rulesAt = l }) (p + 2 + length L + length R + length (encodeRules rs) + 1) z) (stage-rule rs) (append-assoc (s .rulesAt) (r ∷ []) rs)
+    ∙ end-at (record { stage = 2; decls = D; rulesAt = s .rulesAt ++ (r ∷ rs) }) _ _ z w
 
 -- functions, with `every` the arities of all of them in the end
-funs-back : (every ns : List ℕ) (rs : List RuleAt) (fuel i e : ℕ) (before : List ℕ) (f p : ℕ) → i ≤ 1 → every ≡ before ++ ns → f ≡ length before → f + length ns ≤ 32
+funs-back : (every ns : List ℕ) (rs : List RuleAt) (z : List ℕ) (fuel i e : ℕ) (before : List ℕ) (f p : ℕ) → i ≤ 1 → every ≡ before ++ ns → f ≡ length before → f + length ns ≤ 32
     → Each (λ a. a ≤ 4) ns → Each (ValidRule (record { exceptions = e; arities = every })) rs → OpenedFrom (p + length (encodeFuns f ns)) rs → length rs ≤ 64
-    → length (encodeFuns f ns ++ ending rs) ≤ fuel
-    → readRecords fuel (record { stage = i; decls = record { exceptions = e; arities = before }; rulesAt = [] }) p (encodeFuns f ns ++ ending rs)
-    ≡ good (record { stage = stageFrom i ns rs; decls = record { exceptions = e; arities = every }; rulesAt = rs })
-funs-back every [] rs fuel i e before f p st all len few low v o n g =
+    → length (encodeFuns f ns ++ ending rs z) ≤ fuel
+    → readRecords fuel (record { stage = i; decls = record { exceptions = e; arities = before }; rulesAt = [] }) p (encodeFuns f ns ++ ending rs z)
+    ≡ readEnd (record { stage = stageFrom i ns rs; decls = record { exceptions = e; arities = every }; rulesAt = rs }) (p + length (encodeFuns f ns) + length (encodeRules rs) + 1) z
+funs-back every [] rs z fuel i e before f p st all len few low v o n g =
     let d : every ≡ before = all ∙ append-nil before in
-    ap (λ (l : List ℕ). readRecords fuel (record { stage = i; decls = record { exceptions = e; arities = l }; rulesAt = [] }) p (ending rs)) (sym d)
-    ∙ rules-back rs fuel (record { stage = i; decls = record { exceptions = e; arities = every }; rulesAt = [] }) p v (opened-at (p + 0) p rs (omega arith) o) (omega (arith, n)) g
-funs-back every (a ∷ ns) rs zero i e before f p st all len few low v o n g = absurd (omega (arith, g))
-funs-back every (a ∷ ns) rs (suc fuel) i e before f p st all len few low v o n g =
+    ap (λ (l : List ℕ). readRecords fuel (record { stage = i; decls = record { exceptions = e; arities = l }; rulesAt = [] }) p (ending rs z)) (sym d)
+    ∙ rules-back rs z fuel (record { stage = i; decls = record { exceptions = e; arities = every }; rulesAt = [] }) p v (opened-at (p + 0) p rs (omega arith) o) (omega (arith, n)) g
+    ∙ end-at (record { stage = stageFrom i [] rs; decls = record { exceptions = e; arities = every }; rulesAt = rs }) (p + length (encodeRules rs) + 1) (p + 0 + length (encodeRules rs) + 1) z (omega arith)
+funs-back every (a ∷ ns) rs z zero i e before f p st all len few low v o n g = absurd (omega (arith, g))
+funs-back every (a ∷ ns) rs z (suc fuel) i e before f p st all len few low v o n g =
     let m = length-append before (a ∷ []) in
     within-true (leb i 1) 3 p _ (leb-true i 1 st)
     ∙ within-true (ltb (length before) 32) 9 p _ (leb-true (suc (length before)) 32 (omega (arith, len, few)))
     ∙ within-true (eqb f (length before) && leb a 4) 4 p _ (and-true (eqb f (length before)) (leb a 4) (eqb-true f (length before) len) (leb-true a 4 (low .0)))
-    ∙ funs-back every ns rs fuel 1 e (addLast before a) (suc f) (p + 3) (omega arith) (all ∙ sym (append-assoc before (a ∷ []) ns)) (omega (arith, m, len)) (omega (arith, few)) (low .1) v
+    ∙ funs-back every ns rs z fuel 1 e (addLast before a) (suc f) (p + 3) (omega arith) (all ∙ sym (append-assoc before (a ∷ []) ns)) (omega (arith, m, len)) (omega (arith, few)) (low .1) v
     (opened-at (p + length (encodeFuns f (a ∷ ns))) (p + 3 + length (encodeFuns (suc f) ns)) rs (omega arith) o) n (omega (arith, g))
-    ∙ ap (λ (j : ℕ). good (record { stage = j; decls = record { exceptions = e; arities = every }; rulesAt = rs })) (stage-fun i a ns rs)
+    ∙ ap (λ (j : ℕ). readEnd (record { stage = j; decls = record { exceptions = e; arities = every }; rulesAt = rs }) (p + 3 + length (encodeFuns (suc f) ns) + length (encodeRules rs) + 1) z) (stage-fun i a ns rs)
+    ∙ end-at (record { stage = stageFrom i (a ∷ ns) rs; decls = record { exceptions = e; arities = every }; rulesAt = rs }) (p + 3 + length (encodeFuns (suc f) ns) + length (encodeRules rs) + 1) (p + length (encodeFuns f (a ∷ ns)) + length (encodeRules rs) + 1) z (omega arith)
 
 -- exceptions, with `all` their number in the end
-exns-back : (all n : ℕ) (ns : List ℕ) (rs : List RuleAt) (fuel e p : ℕ) → all ≡ e + n → all ≤ 16 → length ns ≤ 32 → Each (λ a. a ≤ 4) ns
+exns-back : (all n : ℕ) (ns : List ℕ) (rs : List RuleAt) (z : List ℕ) (fuel e p : ℕ) → all ≡ e + n → all ≤ 16 → length ns ≤ 32 → Each (λ a. a ≤ 4) ns
     → Each (ValidRule (record { exceptions = all; arities = ns })) rs → OpenedFrom (p + (length (encodeExns e n) + length (encodeFuns 0 ns))) rs → length rs ≤ 64
-    → length (encodeExns e n ++ (encodeFuns 0 ns ++ ending rs)) ≤ fuel
-    → readRecords fuel (record { stage = 0; decls = record { exceptions = e; arities = [] }; rulesAt = [] }) p (encodeExns e n ++ (encodeFuns 0 ns ++ ending rs))
-    ≡ good (record { stage = stageFrom 0 ns rs; decls = record { exceptions = all; arities = ns }; rulesAt = rs })
-exns-back all zero ns rs fuel e p t few len low v o m g =
+    → length (encodeExns e n ++ (encodeFuns 0 ns ++ ending rs z)) ≤ fuel
+    → readRecords fuel (record { stage = 0; decls = record { exceptions = e; arities = [] }; rulesAt = [] }) p (encodeExns e n ++ (encodeFuns 0 ns ++ ending rs z))
+    ≡ readEnd (record { stage = stageFrom 0 ns rs; decls = record { exceptions = all; arities = ns }; rulesAt = rs }) (p + length (encodeExns e n) + length (encodeFuns 0 ns) + length (encodeRules rs) + 1) z
+exns-back all zero ns rs z fuel e p t few len low v o m g =
     let d : all ≡ e = omega (arith, t) in
-    ap (λ (j : ℕ). readRecords fuel (record { stage = 0; decls = record { exceptions = j; arities = [] }; rulesAt = [] }) p (encodeFuns 0 ns ++ ending rs)) (sym d)
-    ∙ funs-back ns ns rs fuel 0 all [] 0 p (omega arith) refl refl (omega (arith, len)) low v (opened-at (p + (0 + length (encodeFuns 0 ns))) _ rs (omega arith) o) m g
-exns-back all (suc n) ns rs zero e p t few len low v o m g = absurd (omega (arith, g))
-exns-back all (suc n) ns rs (suc fuel) e p t few len low v o m g =
+    ap (λ (j : ℕ). readRecords fuel (record { stage = 0; decls = record { exceptions = j; arities = [] }; rulesAt = [] }) p (encodeFuns 0 ns ++ ending rs z)) (sym d)
+    ∙ funs-back ns ns rs z fuel 0 all [] 0 p (omega arith) refl refl (omega (arith, len)) low v (opened-at (p + (0 + length (encodeFuns 0 ns))) _ rs (omega arith) o) m g
+    ∙ end-at (record { stage = stageFrom 0 ns rs; decls = record { exceptions = all; arities = ns }; rulesAt = rs }) (p + length (encodeFuns 0 ns) + length (encodeRules rs) + 1) (p + 0 + length (encodeFuns 0 ns) + length (encodeRules rs) + 1) z (omega arith)
+exns-back all (suc n) ns rs z zero e p t few len low v o m g = absurd (omega (arith, g))
+exns-back all (suc n) ns rs z (suc fuel) e p t few len low v o m g =
     within-true (ltb e 16) 9 p _ (leb-true (suc e) 16 (omega (arith, t, few)))
     ∙ within-true (eqb e e) 4 p _ (eqb-true e e refl)
-    ∙ exns-back all n ns rs fuel (suc e) (p + 2) (omega (arith, t)) few len low v
+    ∙ exns-back all n ns rs z fuel (suc e) (p + 2) (omega (arith, t)) few len low v
     (opened-at (p + (length (encodeExns e (suc n)) + length (encodeFuns 0 ns))) (p + 2 + (length (encodeExns (suc e) n) + length (encodeFuns 0 ns))) rs (omega arith) o) m (omega (arith, g))
+    ∙ end-at (record { stage = stageFrom 0 ns rs; decls = record { exceptions = all; arities = ns }; rulesAt = rs }) (p + 2 + length (encodeExns (suc e) n) + length (encodeFuns 0 ns) + length (encodeRules rs) + 1) (p + length (encodeExns e (suc n)) + length (encodeFuns 0 ns) + length (encodeRules rs) + 1) z (omega arith)
+
+-- a readable program, with anything behind it, is read through its end record
+pub records-back : (s : Book) (z : List ℕ) → Readable s
+    → (q : ℕ) × (readRecords (suc (length (encodeProgram s ++ z))) emptyBook 0 (encodeProgram s ++ z) ≡ readEnd s q z)
+records-back s z v = (
+  0 + length (encodeExns 0 (D .exceptions)) + length (encodeFuns 0 (D .arities)) + length (encodeRules (s .rulesAt)) + 1,
+  ap (readRecords (suc (length (encodeProgram s ++ z))) emptyBook 0) (encoded-behind s z)
+      ∙ exns-back (D .exceptions) (D .exceptions) (D .arities) (s .rulesAt) z (suc (length (encodeProgram s ++ z))) 0 0 (omega arith) (v .exceptions) (v .functions) (v .arities) (v .each-rule)
+      (opened-at (length (encodeExns 0 (D .exceptions)) + length (encodeFuns 0 (D .arities))) _ (s .rulesAt) (omega arith) (v .opened)) (v .rules) (omega (arith, long))
+      ∙ ap (λ (j : ℕ). readEnd (record { stage = j; decls = D; rulesAt = s .rulesAt }) (0 + length (encodeExns 0 (D .exceptions)) + length (encodeFuns 0 (D .arities)) + length (encodeRules (s .rulesAt)) + 1) z)
+      (stage-start (D .arities) (s .rulesAt) ∙ sym (v .stage)),
+)
+  where
+    D : Declared
+    D = s .decls
+
+    long : length (encodeProgram s ++ z) ≡ length (encodeExns 0 (s .decls .exceptions) ++ (encodeFuns 0 (s .decls .arities) ++ ending (s .rulesAt) z))
+    long = ap length (encoded-behind s z)
 
 program-back : (s : Book) → Valid s → readProgram (encodeProgram s) ≡ good s
 unfolding readProgram
 program-back s v =
     ap (λ (b : Bool). choose b (λ u. ifGood (readRecords (suc (length bs)) emptyBook 0 bs) (λ s. ifGood (refuseOverlaps [] (s .rulesAt)) (λ u. good s))) (λ u. refuse 1 0)) (leb-true (length bs) 8192 (v .bytes))
     ∙ ap (λ (r : Result Book). ifGood r (λ s. ifGood (refuseOverlaps [] (s .rulesAt)) (λ u. good s)))
-    (exns-back (D .exceptions) (D .exceptions) (D .arities) (s .rulesAt) (suc (length bs)) 0 0 (omega arith) (v .exceptions) (v .functions) (v .arities) (v .each-rule)
-    (opened-at (length (encodeExns 0 (D .exceptions)) + length (encodeFuns 0 (D .arities))) _ (s .rulesAt) (omega arith) (v .opened)) (v .rules) (omega arith)
-    ∙ ap (λ (j : ℕ). good (record { stage = j; decls = D; rulesAt = s .rulesAt })) (stage-start (D .arities) (s .rulesAt) ∙ sym (v .stage)))
+    (ap (λ (l : List ℕ). readRecords (suc (length l)) emptyBook 0 l) (sym (append-nil bs)) ∙ read .1 ∙ end-good s (read .0) (v .every-function))
     ∙ ap (λ (r : Result (Unit {0})). ifGood r (λ u. good s)) (overlap-back [] (s .rulesAt) (tt, v .none-overlap))
   where
     bs : List ℕ
     bs = encodeProgram s
 
-    D : Declared
-    D = s .decls
+    read : (q : ℕ) × (readRecords (suc (length (encodeProgram s ++ []))) emptyBook 0 (encodeProgram s ++ []) ≡ readEnd s q [])
+    read = records-back s [] (v .readable)
 
 -- A PROGRAM
 pub accepted-exactly : (p : List ℕ) (s : Book) → (readProgram p ≡ good s) ↔ ((p ≡ encodeProgram s) × Valid s)

@@ -7,10 +7,10 @@ use native.Mathlib.Omega.{arith}
 use lib.Dec.{eqb, leb, ltb}
 use lib.ListN.{length, length-append}
 use Rattle.theory.specs.Syntax.{choose}
-use Rattle.theory.specs.Bytes.{recordParts, recordWords, nthTerm, termsFrom, NextRecord, noneLeft, cutShort, nextIs, bodyLength, nextRecord, Result, refused, good, ifGood, Declared, nthArity, termRecord, Where, onLeft, onRight, allowed, ceiling, Side, addRecord, readTermRecord, readSide, RuleAt, patsOf, varsOf, Book, ruleCount, orRefuse, readRule, readTopRecord, readRecords}
+use Rattle.theory.specs.Bytes.{recordParts, recordWords, nthTerm, termsFrom, NextRecord, noneLeft, cutShort, nextIs, nextRecord, Result, refused, good, ifGood, Declared, nthArity, termRecord, Where, onLeft, onRight, allowed, ceiling, Side, addRecord, readTermRecord, readSide, RuleAt, patsOf, varsOf, Book, ruleCount, orRefuse, readRule, readTopRecord, readRecords}
 use Rattle.theory.specs.Encoding.{encode, encodePats}
-use Rattle.theory.proofs.Accepted.{Ok}
-use Rattle.theory.proofs.SidesRead.{spell, Spelt, IsNext, next-is, LeftReads, RightReads, left-reads, right-reads}
+use Rattle.theory.proofs.SidesGive.{Ok}
+use Rattle.theory.proofs.SidesRead.{Spelt, IsNext, next-is, next-long, LeftReads, RightReads, left-reads, right-reads}
 use Rattle.theory.proofs.AcceptedExactly.{withExn, withFun, withRule}
 
 -- the same results, from the same results of the parts
@@ -31,15 +31,11 @@ within-same true n p f g e = e
 within-same false n p f g e = refl
 
 -- behind a record there are fewer bytes
-fewer : (m k b c : ℕ) (rest : List ℕ) → suc (length rest) ≤ length (spell m k b c rest)
-fewer zero k b c rest = omega arith
-fewer (suc zero) k b c rest = omega arith
-fewer (suc (suc m)) k b c rest = omega arith
-
 behind : (bs : List ℕ) (k b c n : ℕ) (rest : List ℕ) → Spelt bs k b c n rest → suc (length rest) ≤ length bs
 behind bs k b c n rest i =
-    let e : length bs ≡ length (spell (bodyLength k) k b c rest) = ap length (i .0) in
-    let f = fewer (bodyLength k) k b c rest in
+    let l = next-long bs k b c n rest i in
+    let e = l .0 in
+    let f = l .1 in
     omega (arith, e, f)
 
 -- behind a part there are no more

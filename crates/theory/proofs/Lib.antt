@@ -27,12 +27,18 @@ pub mod Demand3
 -- bytes
 pub mod RecordRead
 pub mod Checked
-pub mod Accepted
+pub mod SidesGive
 pub mod RecordsOfTerms
 pub mod SidesRead
+pub mod SidesRefuse
+pub mod EndRecord
 pub mod AcceptedExactly
+pub mod Accepted
 pub mod EnoughFuel
+pub mod RecordsStand
+pub mod Refused
 pub mod RefusalTen
+pub mod RefusalSeventeen
 pub mod AcceptedProper
 -- how large things get
 pub mod Bounds

@@ -10,7 +10,7 @@ use Rattle.theory.specs.Translation.{tree, trees}
 use Rattle.theory.specs.Proper.{patVars, patsVars, termVars, termsVars}
 use Rattle.theory.specs.Bytes.{TermRecord, constantRecord, succRecord, ifRecord, variableRecord, raiseRecord, handleRecord, callRecord, recordParts, recordWords, firstTerms, laterTerms, nthTerm, termFrom, termsFrom, Declared, patOf, patsOf}
 use Rattle.theory.specs.Encoding.{baseByte, callBytes, encode, encodes, encodePat, encodePats, termWords, termsWords, patWords, patsWords, OverDeclared, AllOverDeclared}
-use Rattle.theory.proofs.Accepted.{AllTok, Balanced, many-first, build-many}
+use Rattle.theory.proofs.SidesGive.{AllTok, Balanced, many-first, build-many}
 
 -- the bytes, the words and the variables of records
 abbrev pub bytesTok : TermRecord → List ℕ

@@ -14,7 +14,7 @@ use Rattle.theory.specs.Bytes.{TermRecord, constantRecord, succRecord, i
 use Rattle.theory.specs.Encoding.{callBytes, encode, encodes, encodePats, termWords, termsWords, patsWords, OverDeclared, AllOverDeclared, Each}
 use Rattle.theory.proofs.Tests.{leb-true, leb-false, ne-of-eqb, eqb-false}
 use Rattle.theory.proofs.RecordRead.{RecordRead, record-read}
-use Rattle.theory.proofs.Accepted.{Ok, choose-ok, also-ok, TokOk, AllTok, Balanced, SideOk, side-ok, build-many, build-ok}
+use Rattle.theory.proofs.SidesGive.{Ok, choose-ok, also-ok, TokOk, AllTok, Balanced, SideOk, side-ok, build-many, build-ok}
 use Rattle.theory.proofs.RecordsOfTerms.{bytesTok, bytesToks, wordsToks, varsToks, flats, flats-bytes, flats-words, flats-vars, flats-ok, flats-due, flats-build, build-flats, termOf, termsOf, pats-many, pats-bytes, pats-words, pats-vars, AllLeft, left-pats, pats-left}
 
 -- ONE RECORD. What is read of it is its bytes: k its kind, n its length, `rest` behind it.
@@ -47,6 +47,22 @@ bodied-is k (suc (suc m)) (b ∷ c ∷ bs) e = (ap (λ (i : ℕ). spell i k b c 
 pub next-is : (bs : List ℕ) → IsNext bs (nextRecord bs)
 next-is [] = tt
 next-is (k ∷ bs) = bodied-is k (bodyLength k) bs refl
+
+-- with what is behind it, it makes up the bytes; it has one to three of them
+spell-long : (m k b c : ℕ) (rest : List ℕ) → (long m + length rest ≡ length (spell m k b c rest)) × (1 ≤ long m) × (long m ≤ 3)
+spell-long zero k b c rest = (omega arith, omega arith, omega arith)
+spell-long (suc zero) k b c rest = (omega arith, omega arith, omega arith)
+spell-long (suc (suc m)) k b c rest = (omega arith, omega arith, omega arith)
+
+pub next-long : (bs : List ℕ) (k b c n : ℕ) (rest : List ℕ) → Spelt bs k b c n rest → (n + length rest ≡ length bs) × (1 ≤ n) × (n ≤ 3)
+next-long bs k b c n rest i =
+    let e : length bs ≡ length (spell (bodyLength k) k b c rest) = ap length (i .0) in
+    let l = spell-long (bodyLength k) k b c rest in
+    let f = i .1 in
+    let x = l .0 in
+    let y = l .1 in
+    let z = l .2 in
+    (omega (arith, e, f, x), omega (arith, f, y), omega (arith, f, z))
 
 -- a record of the kind v
 pub of-kind : (v k b c n : ℕ) (bs rest : List ℕ) → k ≡ v → Spelt bs k b c n rest → Spelt bs v b c n rest

@@ -24,7 +24,7 @@ pub data Reply : Type 0 where
   refusal : ℕ → About → ℕ → Reply
   answer : Answer → Reply
 
--- REFUSALS 1 TO 11: the program's, then the question's
+-- REFUSALS 1 TO 11 AND 17: the program's, then the question's
 pub data Verdict : Type 0 where
   refuses : ℕ → About → ℕ → Verdict
   accepts : Book → Term → Verdict

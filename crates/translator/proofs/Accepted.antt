@@ -20,6 +20,7 @@ use Rattle.theory.specs.Bytes.{firstTerms, good, Declared, nthArity, RuleAt, Bo
 use Rattle.theory.specs.Encoding.{encode, encodePats, encodeRule, encodeRules, encodeExns, encodeFuns, OverDeclared, AllOverDeclared, Each, ValidRule, OpenedFrom}
 use Rattle.theory.proofs.RecordsOfTerms.{termOf, termsOf, pats-many, pats-bytes, pats-words}
 use Rattle.theory.proofs.AcceptedExactly.{accepted-exactly}
+use Rattle.theory.proofs.RecordsStand.{StandsAt, rules-stand}
 use Rattle.theory.proofs.Readability.{length-words}
 use Rattle.term_words.specs.Records.{Whole, spanOf, countOf, from, termsAt, termAt}
 use Rattle.term_words.proofs.Standing.{Standing, terms-stand, StandingOne, term-stands, question-stands}
@@ -95,17 +96,10 @@ module _ (D : Declared) (arities : List ℕ) (h : Agrees D arities) (bytes : Lis
       small-right : countOf (from arities bytes (rightAt arities bytes p (arityOf arities r))) 1 < 1000
       small-right = let c = right-stands .count in let m = v .right-words in omega (arith, c, m)
 
-  -- ALL RULES, one after the other
-  rules-stand : (rs : List RuleAt) → Each (ValidRule D) rs → (p : ℕ) → OpenedFrom p rs → (rest : List ℕ) → drop p bytes ≡ encodeRules rs ++ rest
-      → Stand arities bytes (openedAt rs) rs
-  rules-stand [] v p o rest e = tt
-  rules-stand (r ∷ rs) v p o rest e =
-      let here : drop p bytes ≡ encodeRule r ++ (encodeRules rs ++ rest) = e ∙ append-assoc (encodeRule r) (encodeRules rs) rest in
-      let next : drop (p + length (encodeRule r)) bytes ≡ encodeRules rs ++ rest =
-      sym (drop-drop (length (encodeRule r)) p bytes) ∙ ap (drop (length (encodeRule r))) here ∙ drop-append-seam (encodeRule r) (encodeRules rs ++ rest) in (
-        subst (λ (q : ℕ). Here arities bytes q r) (sym (o .0)) (rule-stands r (v .0) p (encodeRules rs ++ rest) here),
-        rules-stand rs (v .1) (p + length (encodeRule r)) (o .1) rest next,
-      )
+  -- ALL RULES, at their openings
+  all-stand : (rs : List RuleAt) → Each (ValidRule D) rs → Each (StandsAt bytes) rs → Stand arities bytes (openedAt rs) rs
+  all-stand [] v o = tt
+  all-stand (r ∷ rs) v o = (rule-stands r (v .0) (r .opened) (o .0 .0) (o .0 .1), all-stand rs (v .1) (o .1))
 
 length-openings : (rs : List RuleAt) → length (openedAt rs) ≡ length rs
 length-openings [] = refl
@@ -115,17 +109,13 @@ accepted-listed : (arities program : List ℕ) (s : Book) → readProgram progra
 unfolding rulesIn
 accepted-listed arities program s e h =
     let x = accepted-exactly program s .0 e in
-    let E = encodeExns 0 (s .decls .exceptions) in
-    let F = encodeFuns 0 (s .decls .arities) in
-    let G = encodeRules (s .rulesAt) ++ (0x04 ∷ []) in
-    let stands : drop (length E + length F) program ≡ G =
-    ap (drop (length E + length F)) (x .0) ∙ drop-append-add E (F ++ G) (length F) ∙ drop-append-seam F G in
-    let n = x .1 .rules in
+    let v = x .1 .readable in
+    let n = v .rules in
     let m = length-openings (s .rulesAt) in
     record {
       stand =
           subst (Stand arities program (openedAt (s .rulesAt))) (sym (ap rulesOf e))
-          (rules-stand (s .decls) arities h program (s .rulesAt) (x .1 .each-rule) (length E + length F) (x .1 .opened) (0x04 ∷ []) stands);
+          (all-stand (s .decls) arities h program (s .rulesAt) (v .each-rule) (rules-stand program s (x .0) v));
       few = omega (arith, n, m);
     }
 
@@ -191,7 +181,7 @@ pub accepted-ready : (arities program openings : List ℕ) (exceptions functions
     → Ready arities program openings exceptions functions
 accepted-ready arities program openings exceptions functions a =
     let s = a .book in
-    let v = accepted-exactly program s .0 (a .read) .1 in
+    let v = accepted-exactly program s .0 (a .read) .1 .readable in
     let ns = s .decls .arities in
     let n = a .exceptions-read in
     let m = a .functions-read in

@@ -9,9 +9,9 @@ use native.Mathlib.Omega.{arith}
 use lib.Dec.{eqb, leb, ltb}
 use lib.ListN.{length, getD, take, drop, set, length-drop, length-append}
 use lib.Seq.{drop-drop}
-use borrow.Author.Tests.{lt-ltb, le-ltb, ltb-true, eqb-true, eqb-false, ne-eqb}
+use borrow.Author.Tests.{lt-ltb, le-ltb, ltb-true, ltb-false, eqb-true, eqb-false, ne-eqb}
 use Rattle.theory.specs.Syntax.{choose}
-use Rattle.theory.specs.Bytes.{NextRecord, noneLeft, cutShort, nextIs, nextRecord, Result, refused, good, refuse, ifGood, nthArity, Where, onLeft, onRight, inQuestion, varsOf, readSide, RuleAt, patsOf, termsFrom, nthTerm, Book, ruleCount, addLast, orRefuse, readRule, readTopRecord, readRecords, emptyBook}
+use Rattle.theory.specs.Bytes.{NextRecord, noneLeft, cutShort, nextIs, nextRecord, Result, refused, good, refuse, ifGood, nthArity, Where, onLeft, onRight, inQuestion, varsOf, readSide, RuleAt, patsOf, termsFrom, nthTerm, Book, ruleCount, addLast, orRefuse, readRule, declaredAt, readEnd, readTopRecord, readRecords, emptyBook}
 use Rattle.theory.specs.Bytes
 use Rattle.checker.specs.declared.side.Stand.the-variants.{Left, Right}
 use Rattle.checker.specs.declared.side.Side.{Side}
@@ -20,13 +20,14 @@ use Rattle.checker.specs.Answer.{padded, builtins, table}
 use Rattle.theory.specs.Bytes.{openedAt}
 use Rattle.record.specs.Record.{recordOf, recordAt}
 use Rattle.checker.specs.Side.{noVars, scanFrom, seenIn}
-use Rattle.checker.specs.Declarations.{stopTop, startTop, ownArities, withException, exceptionTurn, withFunction, functionTurn}
-use Rattle.checker.specs.Program.{withRule, rightTurn, leftTurn, sidesTurn, ruleTurn, endTurn, recordTurn, turnOf, turns, parseOf, topAt, topOf}
+use Rattle.checker.specs.Declarations.{stopTop, startTop, ownArities, ownRuled, withException, exceptionTurn, withFunction, functionTurn}
+use Rattle.checker.specs.Program.{withRule, rightTurn, leftTurn, sidesTurn, ruleTurn, lostFrom, endTurn, recordTurn, turnOf, turns, parseOf, marks, topAt, topOf}
 use Rattle.record.proofs.Laws.{Behind, behind}
 use Rattle.checker.proofs.node.Laws.{nth-getD}
 use Rattle.checker.proofs.side.Scan.{scan-fuel}
 use Rattle.checker.proofs.side.Theory.{Same, scan-is-side}
 use Rattle.checker.proofs.program.Turns.{turns-end}
+use Rattle.checker.proofs.program.Lost.{marks-set, lost-is}
 
 -- the arrays
 set-past : (xs ys : List ℕ) (i a : ℕ) → set (xs ++ ys) (length xs + i) a ≡ xs ++ set ys i a
@@ -92,9 +93,11 @@ functioned-is : (s : Book) (p q a : ℕ) → length (s .decls .arities) < 32 →
 unfolding topAt
 functioned-is s p q a h = rw (table-set (s .decls .arities) a h, snoc-long (s .decls .arities) a)
 
-ruled-is : (s : Book) (p q : ℕ) (r : RuleAt) → r .opened ≡ p → ruleCount (s .rulesAt) < 64 → topAt (ruled s r) 2 q ≡ withRule (topAt s (s .stage) p) q
+ruled-is : (s : Book) (p q : ℕ) (r : RuleAt) → r .opened ≡ p → ruleCount (s .rulesAt) < 64 → r .owner < 32 → topAt (ruled s r) 2 q ≡ withRule (topAt s (s .stage) p) (r .owner) q
 unfolding topAt
-ruled-is s p q r o h = rw (← o, opened-set (s .rulesAt) r h, count-snoc (s .rulesAt) r)
+ruled-is s p q r o h l =
+    let z : r .owner ≡ 0 + r .owner = omega arith in
+    rw (← o, opened-set (s .rulesAt) r h, count-snoc (s .rulesAt) r, marks-set 32 0 (r .owner) (s .rulesAt) r z l)
 
 module _ (ws : List ℕ) (f : ℕ) where
   abbrev Turned : Result Book → Top → Type 0
@@ -134,25 +137,41 @@ module _ (ws : List ℕ) (f : ℕ) where
         (λ e₃. let h = ltb-true (length (s .decls .arities)) 32 e₂ in
         rw behind (more (functioned s a) q (omega arith, rw (snoc-long (s .decls .arities) a) (omega arith)) fuel) ∙ ap (turns ws f) (functioned-is s p q a h))))
 
-    end-good : length ws ≤ q → Turned (good s) (endTurn (topAt s (s .stage) p) q (length ws))
-    unfolding endTurn topAt topOf
-    end-good h = rw (le-ltb q (length ws) h) (sym (turns-end ws f (topAt s 3 0) (omega arith)))
+    abbrev lost : ℕ
+    lost = lostFrom (take (length (s .decls .arities)) (marks 32 0 (s .rulesAt)))
 
-    end-more : q < length ws → Turned (refuse 11 q) (endTurn (topAt s (s .stage) p) q (length ws))
-    unfolding endTurn
-    end-more h = rw (lt-ltb q (length ws) h) (stop-turned 11 q)
+    end-lost : lost < length (s .decls .arities) → Turned (refuse 17 (declaredAt (s .decls) lost)) (endTurn (topAt s (s .stage) p) q (length ws))
+    unfolding endTurn ownRuled topAt
+    end-lost h = rw (lt-ltb lost (length (s .decls .arities)) h) (stop-turned 17 (declaredAt (s .decls) lost))
 
-    end-turned : Turned (choose (eqb (length bs) 0) (λ u. good s) (λ u. refuse 11 q)) (endTurn (topAt s (s .stage) p) q (length ws))
-    end-turned = by-rest (eqb (length bs) 0) refl
+    module _ (none : length (s .decls .arities) ≤ lost) where
+      end-good : length ws ≤ q → Turned (good s) (endTurn (topAt s (s .stage) p) q (length ws))
+      unfolding endTurn ownRuled topAt topOf
+      end-good h = rw (le-ltb lost (length (s .decls .arities)) none, le-ltb q (length ws) h) (sym (turns-end ws f (topAt s 3 0) (omega arith)))
+
+      end-more : q < length ws → Turned (refuse 11 q) (endTurn (topAt s (s .stage) p) q (length ws))
+      unfolding endTurn ownRuled topAt
+      end-more h = rw (le-ltb lost (length (s .decls .arities)) none, lt-ltb q (length ws) h) (stop-turned 11 q)
+
+      end-left : Turned (choose (eqb (length bs) 0) (λ u. good s) (λ u. refuse 11 q)) (endTurn (topAt s (s .stage) p) q (length ws))
+      end-left = by-rest (eqb (length bs) 0) refl
+        where
+          long : length bs ≡ length ws - q
+          long = ap length behind ∙ length-drop q ws
+
+          by-rest : (b : Bool) → eqb (length bs) 0 ≡ b → Turned (choose b (λ u. good s) (λ u. refuse 11 q)) (endTurn (topAt s (s .stage) p) q (length ws))
+          by-rest true e = end-good (omega (arith, long, eqb-true (length bs) 0 e))
+          by-rest false e = let z = eqb-false (length bs) 0 e in end-more (omega (arith, long))
+
+    end-turned : Turned (readEnd s q bs) (endTurn (topAt s (s .stage) p) q (length ws))
+    end-turned = rw (lost-is (s .decls) (s .rulesAt) (s .decls .arities) 32 (well .1) lost refl) (by-lost (ltb lost (length (s .decls .arities))) refl)
       where
-        long : length bs ≡ length ws - q
-        long = ap length behind ∙ length-drop q ws
+        by-lost : (b : Bool) → ltb lost (length (s .decls .arities)) ≡ b
+            → Turned (ifGood (choose b (λ u. refuse 17 (declaredAt (s .decls) lost)) (λ u. good (tt {0}))) (λ u. choose (eqb (length bs) 0) (λ u. good s) (λ u. refuse 11 q))) (endTurn (topAt s (s .stage) p) q (length ws))
+        by-lost true e = end-lost (ltb-true lost (length (s .decls .arities)) e)
+        by-lost false e = end-left (ltb-false lost (length (s .decls .arities)) e)
 
-        by-rest : (b : Bool) → eqb (length bs) 0 ≡ b → Turned (choose b (λ u. good s) (λ u. refuse 11 q)) (endTurn (topAt s (s .stage) p) q (length ws))
-        by-rest true e = end-good (omega (arith, long, eqb-true (length bs) 0 e))
-        by-rest false e = let z = eqb-false (length bs) 0 e in end-more (omega (arith, long))
-
-    module _ (b : ℕ) (few : ruleCount (s .rulesAt) < 64) where
+    module _ (b : ℕ) (few : ruleCount (s .rulesAt) < 64) (low : b < length (s .decls .arities)) where
       abbrev n : ℕ
       n = s .decls .exceptions
 
@@ -163,12 +182,12 @@ module _ (ws : List ℕ) (f : ℕ) where
       made l r = record { owner = b; opened = p; sides = record { left = patsOf (termsFrom (l .records)); right = nthTerm (termsFrom (r .records)) 0 } }
 
       right-turned : (from : ℕ) (l : Bytes.Side) → length ws - from < f → (r : Result Bytes.Side) (o : Side) → Same n ns ws from r o
-          → Turned (ifGood r (λ r. readRecords f (ruled s (made l r)) (r .from) (r .rest))) (rightTurn (topAt s (s .stage) p) o)
+          → Turned (ifGood r (λ r. readRecords f (ruled s (made l r)) (r .from) (r .rest))) (rightTurn (topAt s (s .stage) p) b o)
       unfolding rightTurn
       right-turned from l k (refused r) o h = rw (← h .0, ne-eqb (r .number) 0 (h .1)) (stop-turned (r .number) (r .place))
       right-turned from l k (good r) o h =
           rw (← h .0, h .1 .0)
-          (more (ruled s (made l r)) (r .from) (omega arith, well .1) (omega (arith, h .1 .1)) ∙ ap (turns ws f) (ruled-is s p (r .from) (made l r) refl few))
+          (more (ruled s (made l r)) (r .from) (omega arith, well .1) (omega (arith, h .1 .1)) ∙ ap (turns ws f) (ruled-is s p (r .from) (made l r) refl few (omega (arith, low, well .1))))
 
       same-seen : (w : Where) → seenIn (onRight (varsOf w)) ≡ seenIn w
       same-seen (onLeft xs) = refl
@@ -185,7 +204,7 @@ module _ (ws : List ℕ) (f : ℕ) where
 
       left-turned : (l : Result Bytes.Side) (o : Side) → Same n ns ws q l o
           → Turned (ifGood l (λ l. ifGood (readSide (s .decls) f (onRight (varsOf (l .seen))) 1 0 (l .from) (l .rest)) (λ r. readRecords f (ruled s (made l r)) (r .from) (r .rest))))
-          (leftTurn (topAt s (s .stage) p) o (λ s′ p′. scanFrom n ns ws Right s′ 1 0 p′))
+          (leftTurn (topAt s (s .stage) p) b o (λ s′ p′. scanFrom n ns ws Right s′ 1 0 p′))
       unfolding leftTurn
       left-turned (refused r) o h = rw (← h .0, ne-eqb (r .number) 0 (h .1)) (stop-turned (r .number) (r .place))
       left-turned (good l) o h =
@@ -210,7 +229,7 @@ module _ (ws : List ℕ) (f : ℕ) where
     unfolding ruleTurn topAt
     rule-turned b =
         within-turned (ltb (ruleCount (s .rulesAt)) 64) 9 p _ _ (λ e. within-turned (ltb b (length (s .decls .arities))) 4 p _ _
-        (λ e₂. sides-turned b (ltb-true (ruleCount (s .rulesAt)) 64 e)))
+        (λ e₂. sides-turned b (ltb-true (ruleCount (s .rulesAt)) 64 e) (ltb-true b (length (s .decls .arities)) e₂)))
 
   on-turned : (s : Book) → Well s → (p : ℕ) (o : NextRecord) → Behind (drop p ws) o → length ws - p ≤ f
       → ((s′ : Book) (p′ : ℕ) → Well s′ → length ws - p′ < f → Turned (readRecords f s′ p′ (drop p′ ws)) (topAt s′ (s′ .stage) p′))
@@ -237,5 +256,5 @@ top-is-turns ws (suc f) s p well h =
     (on-turned ws f s well p (nextRecord (drop p ws)) (behind (drop p ws)) (omega arith) (λ s′ p′ w k. top-is-turns ws f s′ p′ w k))
 
 pub parse-is : (ws : List ℕ) → parseOf ws ≡ topOf (readRecords (suc (length ws)) emptyBook 0 ws)
-unfolding parseOf startTop topAt table padded
+unfolding parseOf startTop topAt table padded marks
 parse-is ws = sym (top-is-turns ws (suc (length ws)) emptyBook 0 (omega arith, omega arith) (omega arith))

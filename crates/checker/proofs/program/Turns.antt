@@ -8,6 +8,7 @@ use lib.Dec.{eqb, leb, ltb}
 use lib.ListN.{length, getD, length-set}
 use borrow.Author.Tests.{lt-ltb, le-ltb, eq-eqb, ne-eqb, ltb-true, ltb-false, eqb-false}
 use Rattle.theory.specs.Syntax.{choose, pick}
+use Rattle.theory.specs.Bytes.{declaredAt}
 use Rattle.checker.specs.declared.side.Stand.{Stand}
 use Rattle.checker.specs.declared.side.Stand.the-variants.{Left, Right}
 use Rattle.record.specs.declared.Record.{Record}
@@ -17,9 +18,9 @@ use Rattle.checker.specs.declared.declarations.Top.{Top}
 use Rattle.record.specs.Record.{recordAt}
 use Rattle.checker.specs.Node.{tokAt}
 use Rattle.checker.specs.Side.{stepOf, mostOf, stopSide, noVars, onStep, onRecord, scan, scanFrom}
-use Rattle.checker.specs.Answer.{table, padded}
-use Rattle.checker.specs.Declarations.{Kept, stopTop, startTop, ownArities, exceptionTurn, functionTurn}
-use Rattle.checker.specs.Program.{rightTurn, leftTurn, sidesTurn, ruleTurn, endTurn, recordTurn, turnOf, turns, parseOf}
+use Rattle.checker.specs.Answer.{declared, table, padded}
+use Rattle.checker.specs.Declarations.{Kept, stopTop, startTop, ownArities, ownRuled, exceptionTurn, functionTurn}
+use Rattle.checker.specs.Program.{rightTurn, leftTurn, sidesTurn, ruleTurn, lostFrom, endTurn, recordTurn, turnOf, turns, parseOf}
 use Rattle.checker.proofs.side.Scan.{choose-same}
 use Rattle.record.proofs.Laws.{record-most}
 
@@ -84,14 +85,15 @@ module _ (ws : List ℕ) (t : Top) where
 
   stop-goes : (n p : ℕ) → Goes (stopTop n p)
   unfolding stopTop
-  stop-goes n p = (λ h. absurd (omega arith), λ k. (omega arith, refl, omega arith, refl))
+  stop-goes n p = (λ h. absurd (omega arith), λ k. (omega arith, refl, omega arith, refl, omega arith, refl))
 
   module _ (q : ℕ) (on : length ws - q < length ws - t .place) where
     exception-goes : (b : ℕ) → Goes (exceptionTurn t b q)
     unfolding exceptionTurn
     exception-goes b =
         choose-goes (eqb (t .stage) 0) _ _
-        (λ e. choose-goes (ltb (t .exceptions) 16) _ _ (λ e. choose-goes (eqb b (t .exceptions)) _ _ (λ e. (λ h. on, λ k. k)) (λ e. stop-goes 4 (t .place))) (λ e. stop-goes 9 (t .place)))
+        (λ e. choose-goes (ltb (t .exceptions) 16) _ _
+        (λ e. choose-goes (eqb b (t .exceptions)) _ _ (λ x. (λ h. on, λ k. (k .0, k .1, k .2, k .3, omega (arith, ltb-true (t .exceptions) 16 e), k .5))) (λ e. stop-goes 4 (t .place))) (λ e. stop-goes 9 (t .place)))
         (λ e. stop-goes 3 (t .place))
 
     function-goes : (b a : ℕ) → Goes (functionTurn t b a q)
@@ -99,7 +101,7 @@ module _ (ws : List ℕ) (t : Top) where
     function-goes b a =
         choose-goes (leb (t .stage) 1) _ _
         (λ e. choose-goes (ltb (t .functions) 32) _ _
-        (λ e. choose-goes (eqb b (t .functions) && leb a 4) _ _ (λ x. (λ h. on, λ k. (omega (arith, ltb-true (t .functions) 32 e), length-set (t .arities) (16 + t .functions) a ∙ k .1, k .2, k .3))) (λ x. stop-goes 4 (t .place)))
+        (λ e. choose-goes (eqb b (t .functions) && leb a 4) _ _ (λ x. (λ h. on, λ k. (omega (arith, ltb-true (t .functions) 32 e), length-set (t .arities) (16 + t .functions) a ∙ k .1, k .2, k .3, k .4, k .5))) (λ x. stop-goes 4 (t .place)))
         (λ e. stop-goes 9 (t .place)))
         (λ e. stop-goes 3 (t .place))
 
@@ -111,7 +113,7 @@ module _ (ws : List ℕ) (t : Top) where
         let a = scan-grows (t .exceptions) (ownArities t) ws (suc (length ws - q)) Left noVars (getD (ownArities t) f 0) 1 q in
         let b = scan-grows (t .exceptions) (ownArities t) ws (suc (length ws - l .at)) Right (l .seen) 1 0 (l .at) in
         choose-goes (eqb (l .refusal) 0) _ _
-        (λ e. choose-goes (eqb (r .refusal) 0) _ _ (λ e. (λ h. omega (arith, a, b, on), λ k. (k .0, k .1, omega arith, length-set (t .openings) (t .rules) (t .place) ∙ k .3))) (λ e. stop-goes (r .refusal) (r .at)))
+        (λ e. choose-goes (eqb (r .refusal) 0) _ _ (λ e. (λ h. omega (arith, a, b, on), λ k. (k .0, k .1, omega arith, length-set (t .openings) (t .rules) (t .place) ∙ k .3, k .4, length-set (t .ruled) f true ∙ k .5))) (λ e. stop-goes (r .refusal) (r .at)))
         (λ e. stop-goes (l .refusal) (l .at))
 
     rule-goes : (b : ℕ) → Goes (ruleTurn ws t b q)
@@ -121,7 +123,10 @@ module _ (ws : List ℕ) (t : Top) where
 
   end-goes : (q len : ℕ) → Goes (endTurn t q len)
   unfolding endTurn
-  end-goes q len = choose-goes (ltb q len) _ _ (λ e. stop-goes 11 q) (λ e. (λ h. absurd (omega arith), λ k. k))
+  end-goes q len =
+      let lost = lostFrom (ownRuled t) in
+      choose-goes (ltb lost (t .functions)) _ _ (λ e. stop-goes 17 (declaredAt (declared (t .exceptions) (ownArities t)) lost))
+      (λ e. choose-goes (ltb q len) _ _ (λ e. stop-goes 11 q) (λ e. (λ h. absurd (omega arith), λ k. k)))
 
   pub turn-goes : Goes (turnOf ws t)
   unfolding turnOf recordTurn
@@ -163,7 +168,7 @@ module _ (ws : List ℕ) where
 
   pub start-kept : (t : Top) → t ≡ startTop → Kept t
   unfolding startTop table padded
-  start-kept t e = rw e (omega arith, refl, omega arith, refl)
+  start-kept t e = rw e (omega arith, refl, omega arith, refl, omega arith, refl)
 
   pub parse-goes : (t u : Top) → t .stage < 3 → u ≡ turnOf ws t → turns ws (suc (length ws - t .place)) t ≡ turns ws (suc (length ws - u .place)) u
   unfolding turns
