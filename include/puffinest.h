@@ -2,7 +2,7 @@
  *
  * Both calls take any bytes at all; the caller need have checked nothing. A report has 7 words:
  *
- *   0  refusal number, 0 where nothing is refused
+ *   0  refusal number: 1 to 13, or 17 for a declared function without a rule; 0 where nothing is refused
  *   1  what the refusal is about: 0 nothing, 1 the program, 2 the question
  *   2  the byte place in that string
  *   3  ending: 0 refused, 1 value, 2 exception, 3 stuck, 4 out of steps, 5 too deep, 6 too big

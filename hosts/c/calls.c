@@ -1,5 +1,5 @@
-/* The sentences of puffinest.h on the calls: NULL with length 0, a report that is too short, where the term begins, what the own list's
- * slice must hold, and the stack of a call. */
+/* The sentences of puffinest.h on the calls: NULL with length 0, a report that is too short, where the term begins, refusal 17, what the
+ * own list's slice must hold, and the stack of a call. */
 #define _GNU_SOURCE
 #include "../cases.h"
 #include "puffinest.h"
@@ -78,6 +78,18 @@ static void slices(void) {
     expect(all(first, 2, room, 0) && all(first, room, ROOM, 0xffff), "first: zeros up to the room, then the words that were there");
     expect(all(second, 0, room, 0) && all(second, room, ROOM, 0xffff), "second: zeros up to the room, then the words that were there");
     expect(all(own, 0, OWN, 0xffff), "own: an own list of no words changes none");
+}
+
+/* A function without a rule: its number and the place of its declaration in the report of either call, and no word written. */
+static void lost_rules(void) {
+    /* Exceptions 0 and 1; f and g without arguments, and f has the only rule; a byte is left over. */
+    static const uint8_t lost[] = {1, 0, 1, 1, 2, 0, 0, 2, 1, 0, 3, 0, 0x10, 4, 4};
+    mark();
+    puffinest_evaluate(lost, sizeof lost, one, sizeof one, 9, 9, report, REPORT);
+    expect(reports(17, 1, 7, 0, 0, 0, 0), "evaluate: a function without a rule is refused by 17 at its declaration");
+    puffinest_rewrite(lost, sizeof lost, one, sizeof one, 9, 9, own, OWN, first, ROOM, second, ROOM, report, REPORT);
+    expect(reports(17, 1, 7, 0, 0, 0, 0), "rewrite: a function without a rule is refused by 17 at its declaration");
+    expect(all(own, 0, OWN, 0xffff) && all(first, 0, ROOM, 0xffff) && all(second, 0, ROOM, 0xffff), "refused by 17: no word changes");
 }
 
 /* The bytes of a program that is being written. */
@@ -187,8 +199,8 @@ static void stack(void) {
     length = bytes("02 00 01 03 00 14 00 19 00 14 00 04", program);
     question_length = bytes("19 00 10", question);
     measure("g(x) -> g(x)", 5, 4);
-    /* f has four arguments and no rule; h -> f(0,0,0,f(0,0,0,...h)), and the question begins so too. */
-    length = bytes("02 00 04 02 01 00 03 01", program);
+    /* f(x,y,z,w) -> 0, which is never come to: h -> f(0,0,0,f(0,0,0,...h)), and the question begins so too. */
+    length = bytes("02 00 04 02 01 00 03 00 14 00 14 01 14 02 14 03 10 03 01", program);
     length += repeat(31, "19 00 10 10 10", program + length);
     length += bytes("19 01 04", program + length);
     question_length = repeat(127, "19 00 10 10 10", question);
@@ -215,6 +227,7 @@ static void stack(void) {
 int main(void) {
     null_with_length_0();
     slices();
+    lost_rules();
     largest_own_list();
     stack();
     puts("the header's sentences on the calls hold");

@@ -43,7 +43,7 @@ pub fn body_length(kind: u8) -> Option<usize> {
     }
 }
 
-/// Checks a program: refusals 1 to 9, then 11, then 10.
+/// Checks a program: refusals 1 to 9, then 17, then 11, then 10.
 pub fn check_program(bytes: &[u8]) -> Result<Program, Refusal> {
     let mut reader = Reader {
         about: About::Program,
@@ -53,64 +53,22 @@ pub fn check_program(bytes: &[u8]) -> Result<Program, Refusal> {
     if bytes.len() > MAX_PROGRAM_BYTES {
         return Err(reader.refusal(1, 0));
     }
-    let mut program = Program {
-        exceptions: 0,
-        functions: Vec::new(),
-    };
-    let mut rules = 0;
-    loop {
-        let record = reader.record()?;
-        let refuse = |number| Err(reader.refusal(number, record.place));
-        let number = usize::from(record.first);
-        match record.kind {
-            EXCEPTION => {
-                if !program.functions.is_empty() || rules > 0 {
-                    return refuse(3);
-                }
-                if program.exceptions == MAX_EXCEPTIONS {
-                    return refuse(9);
-                }
-                if number != program.exceptions {
-                    return refuse(4);
-                }
-                program.exceptions += 1;
-            }
-            FUNCTION => {
-                let arity = usize::from(record.second);
-                if rules > 0 {
-                    return refuse(3);
-                }
-                if program.functions.len() == MAX_FUNCTIONS {
-                    return refuse(9);
-                }
-                if number != program.functions.len() || arity > MAX_ARITY {
-                    return refuse(4);
-                }
-                program.functions.push(Function {
-                    arity,
-                    rules: Vec::new(),
-                });
-            }
-            RULE => {
-                if rules == MAX_RULES {
-                    return refuse(9);
-                }
-                if number >= program.functions.len() {
-                    return refuse(4);
-                }
-                let rule = reader.rule(&program, number, record.place)?;
-                program.functions[number].rules.push(rule);
-                rules += 1;
-            }
-            END => break,
-            _ => return refuse(3),
-        }
+    let program = reader.program()?;
+    let lost = program.functions.iter().position(|f| f.rules.is_empty());
+    if let Some(function) = lost {
+        return Err(reader.refusal(17, declaration(&program, function)));
     }
     reader.nothing_left()?;
     match first_overlap(&program) {
         Some(place) => Err(reader.refusal(10, place)),
         None => Ok(program),
     }
+}
+
+/// The place of a declared function's 02 record. Before it stand all exceptions, two
+/// bytes each, and the functions below it, three bytes each: numbers rise by one.
+fn declaration(program: &Program, function: usize) -> usize {
+    2 * program.exceptions + 3 * function
 }
 
 /// Checks a question of a program: refusals 2, 3, 4, 7, 8, then 11.
@@ -185,6 +143,46 @@ impl Reader<'_> {
             first: body.first().copied().unwrap_or(0),
             second: body.get(1).copied().unwrap_or(0),
         })
+    }
+
+    /// Reads the records of a program through its end record.
+    fn program(&mut self) -> Result<Program, Refusal> {
+        let mut program = Program::default();
+        let mut opened = 0; // rules
+        loop {
+            let record = self.record()?;
+            let require = |good, number| match good {
+                true => Ok(()),
+                false => Err(self.refusal(number, record.place)),
+            };
+            let number = usize::from(record.first);
+            let declared = program.functions.len();
+            match record.kind {
+                EXCEPTION => {
+                    require(declared == 0 && opened == 0, 3)?;
+                    require(program.exceptions < MAX_EXCEPTIONS, 9)?;
+                    require(number == program.exceptions, 4)?;
+                    program.exceptions += 1;
+                }
+                FUNCTION => {
+                    let arity = usize::from(record.second);
+                    require(opened == 0, 3)?;
+                    require(declared < MAX_FUNCTIONS, 9)?;
+                    require(number == declared && arity <= MAX_ARITY, 4)?;
+                    let rules = Vec::new();
+                    program.functions.push(Function { arity, rules });
+                }
+                RULE => {
+                    require(opened < MAX_RULES, 9)?;
+                    require(number < declared, 4)?;
+                    let rule = self.rule(&program, number, record.place)?;
+                    program.functions[number].rules.push(rule);
+                    opened += 1;
+                }
+                END => return Ok(program),
+                _ => require(false, 3)?,
+            }
+        }
     }
 
     /// Reads the left arguments and the right side of a rule just opened.

@@ -15,8 +15,8 @@ const CLIP: usize = 400;
 const BEFORE: usize = 100;
 
 const ENDINGS: [&str; 6] = ["value", "exception", "stuck", "out", "deep", "big"];
-const REFUSALS: [&str; 13] = [
-    "1", "2", "3", "4", "5", "6", "7", "8", "9", "10", "11", "12", "13",
+const REFUSALS: [&str; 14] = [
+    "1", "2", "3", "4", "5", "6", "7", "8", "9", "10", "11", "12", "13", "17",
 ];
 const NO_CASE: [&str; 2] = ["bad", "too"];
 
@@ -25,7 +25,7 @@ pub(crate) type Cell = (&'static str, &'static str);
 
 /// What cannot occur: the evaluator has no room, the rewriter no levels, and a
 /// question is never refused by the numbers here.
-pub(crate) const NEVER: [Cell; 9] = [
+pub(crate) const NEVER: [Cell; 10] = [
     ("evaluator", "big"),
     ("rewriter", "deep"),
     ("question", "1"),
@@ -35,6 +35,7 @@ pub(crate) const NEVER: [Cell; 9] = [
     ("question", "10"),
     ("question", "12"),
     ("question", "13"),
+    ("question", "17"),
 ];
 
 /// Compares two files of answers to a file of cases and prints what was found.

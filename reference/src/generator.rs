@@ -1,7 +1,7 @@
 //! The generator of random cases: sound programs and questions of many shapes,
-//! damaged ones, loose records, plain random bytes, and cases at and past every
-//! ceiling and allowance; and of lines, of which some are no case. The same seed
-//! gives the same lines.
+//! damaged ones, loose records, plain random bytes, functions that lost their
+//! rules, and cases at and past every ceiling and allowance; and of lines, of
+//! which some are no case. The same seed gives the same lines.
 
 use crate::checker::*;
 use crate::evaluator;
@@ -221,18 +221,26 @@ fn declarations(shape: &Shape) -> Vec<u8> {
     bytes
 }
 
-/// A program of this shape with at most so many rules.
+/// A rule to be written: its function and its left side.
+type Left = (usize, Vec<Pattern>);
+
+/// A program of this shape with at most so many rules, or one for each function.
 fn program(random: &mut Random, shape: &Shape, most: usize) -> Vec<u8> {
-    let mut bytes = declarations(shape);
+    let rules = lefts(random, shape, most);
+    written(random, shape, rules)
+}
+
+/// The left sides of a program's rules. Each function has one at the least, for
+/// otherwise nothing but refusal 17 would be tried.
+fn lefts(random: &mut Random, shape: &Shape, most: usize) -> Vec<Left> {
     let functions = shape.signatures.len();
-    let mut rules: Vec<(usize, Vec<Pattern>)> = Vec::new();
+    let most = most.max(functions);
+    let mut rules: Vec<Left> = Vec::new();
     for (function, signature) in shape.signatures.iter().enumerate() {
         let share = (most - rules.len()) / (functions - function);
         let count = random.pick(&[share, share, share, 2, 1]);
-        let count = count.min(most - rules.len());
-        if count == 0 || random.chance(6) {
-            continue; // a function may have no rule
-        }
+        let later = functions - function - 1;
+        let count = count.min(most - rules.len() - later);
         let complete = random.chance(70);
         for row in rows(random, &signature.arguments, count, complete) {
             rules.push((function, row));
@@ -249,6 +257,12 @@ fn program(random: &mut Random, shape: &Shape, most: usize) -> Vec<u8> {
     if random.chance(30) {
         random.shuffle(&mut rules);
     }
+    rules
+}
+
+/// The program of this shape with these rules.
+fn written(random: &mut Random, shape: &Shape, rules: Vec<Left>) -> Vec<u8> {
+    let mut bytes = declarations(shape);
     let longest = random.pick(&[4, 8, 14, 14, 30, MAX_RIGHT_WORDS]);
     for (function, row) in rules {
         let right = random.between(1, longest);
@@ -256,6 +270,15 @@ fn program(random: &mut Random, shape: &Shape, most: usize) -> Vec<u8> {
     }
     bytes.push(END);
     bytes
+}
+
+/// Writes one rule that fits everything for each function below some number.
+fn plain_rules(random: &mut Random, shape: &Shape, below: usize, bytes: &mut Vec<u8>) {
+    for function in 0..below {
+        let row = vec![ANY; shape.signatures[function].arguments.len()];
+        let right = random.between(1, 4);
+        rule(random, shape, function, &row, right, bytes);
+    }
 }
 
 /// Rows of patterns that no list of values fits twice: one row of variables,
@@ -293,6 +316,7 @@ fn rows(random: &mut Random, sorts: &[Sort], count: usize, complete: bool) -> Ve
             rows.push(row);
         }
         if rows.is_empty() {
+            rows.push(row);
             break;
         }
     }
@@ -656,6 +680,7 @@ fn loose_records(random: &mut Random) -> (Vec<u8>, Vec<u8>) {
     if random.chance(30) {
         // A sound program, so that the question is looked at.
         program = declarations(&shape);
+        plain_rules(random, &shape, functions, &mut program);
         program.push(END);
     }
     let count = random.below(6);
@@ -757,7 +782,7 @@ fn around_longest(random: &mut Random, line: Vec<u8>) -> Vec<u8> {
 
 fn ceiling(random: &mut Random) -> (Vec<u8>, Vec<u8>) {
     let past = random.below(2);
-    match random.below(14) {
+    match random.below(15) {
         0 => program_bytes_ceiling(random),
         1 => exceptions_ceiling(random, past),
         2 => functions_ceiling(random, past),
@@ -793,6 +818,7 @@ fn ceiling(random: &mut Random) -> (Vec<u8>, Vec<u8>) {
             (program, vec![ZERO])
         }
         12 => growing(random),
+        13 => lost_rules(random),
         _ => {
             // A question that never comes to its end.
             let shape = small_shape(random);
@@ -871,6 +897,36 @@ fn program_bytes_ceiling(random: &mut Random) -> (Vec<u8>, Vec<u8>) {
     (program, question)
 }
 
+/// A program in which one to three functions lost their rules: refusal 17, with what
+/// comes later (bytes left over, an overlap, a bad question) now and then behind it,
+/// and without its end record now and then.
+fn lost_rules(random: &mut Random) -> (Vec<u8>, Vec<u8>) {
+    let exceptions = random.pick(&[0, 1, 3, MAX_EXCEPTIONS]);
+    let functions = random.pick(&[1, 2, 3, 5, MAX_FUNCTIONS]);
+    let shape = shape(random, exceptions, functions);
+    let mut rules = lefts(random, &shape, functions);
+    if random.chance(25) {
+        rules.extend_from_within(..); // an overlap
+        rules.truncate(MAX_RULES);
+    }
+    for _ in 0..random.pick(&[1, 1, 2, 3]) {
+        let any = random.below(functions);
+        let lost = random.pick(&[0, any, functions - 1]);
+        rules.retain(|(function, _)| *function != lost);
+    }
+    let mut program = written(random, &shape, rules);
+    match random.below(10) {
+        0 | 1 => program.push(random.pick(&[END, ZERO, 0xff])),
+        2 => drop(program.pop()),
+        _ => {}
+    }
+    let mut question = question(random, &shape);
+    if random.chance(20) {
+        question.pop();
+    }
+    (program, question)
+}
+
 fn exceptions_ceiling(random: &mut Random, past: usize) -> (Vec<u8>, Vec<u8>) {
     let mut program = Vec::new();
     for exception in 0..MAX_EXCEPTIONS as u8 {
@@ -891,16 +947,19 @@ fn exceptions_ceiling(random: &mut Random, past: usize) -> (Vec<u8>, Vec<u8>) {
 }
 
 fn functions_ceiling(random: &mut Random, past: usize) -> (Vec<u8>, Vec<u8>) {
-    let mut program = Vec::new();
-    for function in 0..MAX_FUNCTIONS as u8 {
-        program.extend([FUNCTION, function, random.below(3) as u8]);
+    let mut shape = shape(random, 0, MAX_FUNCTIONS);
+    for signature in &mut shape.signatures {
+        signature.arguments.truncate(2);
     }
+    let mut program = declarations(&shape);
     if past == 1 {
         program.push(FUNCTION);
         if random.chance(85) {
             program.push(random.pick(&[32, 0, 255]));
             program.push(random.pick(&[0, 4, 5]));
         }
+    } else {
+        plain_rules(random, &shape, MAX_FUNCTIONS, &mut program);
     }
     program.push(END);
     let function = random.between(30, 33) as u8;
@@ -925,8 +984,9 @@ fn rules_ceiling(random: &mut Random, past: usize) -> (Vec<u8>, Vec<u8>) {
     shape.signatures.push(signature(random, MAX_ARITY));
     let function = shape.signatures.len() - 1;
     let mut program = declarations(&shape);
+    plain_rules(random, &shape, function, &mut program);
     let sorts = [Sort::Number; MAX_ARITY];
-    for row in rows(random, &sorts, MAX_RULES, true) {
+    for row in rows(random, &sorts, MAX_RULES - function, true) {
         let right = random.between(1, 9);
         rule(random, &shape, function, &row, right, &mut program);
     }
@@ -973,6 +1033,7 @@ fn left_ceiling(random: &mut Random, past: usize) -> (Vec<u8>, Vec<u8>) {
         .collect();
     let right = random.between(1, 9);
     rule(random, &shape, function, &row, right, &mut program);
+    plain_rules(random, &shape, function, &mut program);
     program.push(END);
     let mut question = vec![CALL, function as u8];
     for pattern in row {
@@ -995,6 +1056,7 @@ fn right_ceiling(random: &mut Random, past: usize) -> (Vec<u8>, Vec<u8>) {
     let row = vec![ANY; arity];
     let words = MAX_RIGHT_WORDS + past;
     rule(random, &shape, function, &row, words, &mut program);
+    plain_rules(random, &shape, function, &mut program);
     program.push(END);
     let mut question = vec![CALL, function as u8];
     for _ in 0..arity {

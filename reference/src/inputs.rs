@@ -38,7 +38,7 @@ const ENDINGS: [&str; 10] = [
 ];
 
 /// And when it refuses.
-const REFUSALS: [&str; 17] = [
+const REFUSALS: [&str; 18] = [
     "refused program 1 ",
     "refused program 2 ",
     "refused program 3 ",
@@ -50,6 +50,7 @@ const REFUSALS: [&str; 17] = [
     "refused program 9 ",
     "refused program 10 ",
     "refused program 11 ",
+    "refused program 17 ",
     "refused question 2 ",
     "refused question 3 ",
     "refused question 4 ",

@@ -79,7 +79,7 @@ pub struct Function {
     pub rules: Vec<Rule>,
 }
 
-#[derive(Clone, Debug, PartialEq, Eq)]
+#[derive(Clone, Debug, Default, PartialEq, Eq)]
 pub struct Program {
     pub exceptions: usize,
     pub functions: Vec<Function>,

@@ -47,7 +47,7 @@ fn programs() {
         ("05 04", "program 3 0"),
         ("ff", "program 3 0"),
         // both sides of arity
-        ("020004 04", "ok"),
+        ("020004 0300 10 10 10 10 10 04", "ok"),
         ("020005 04", "program 4 0"),
         ("0200", "program 2 0"),
         ("0300 04", "program 4 0"),
@@ -102,9 +102,45 @@ fn programs() {
     }
 }
 
+/// Refusal 17: some declared function has no rule.
+#[test]
+fn functions_without_a_rule() {
+    let table = [
+        ("020000 04", "program 17 0"),
+        ("020004 04", "program 17 0"),
+        ("0100 0101 020002 04", "program 17 4"),
+        ("020000 0300 10 04", "ok"),
+        ("020000 020101 0301 1400 10 0300 10 04", "ok"),
+        // two lost: the lower; what the rules' order is does not matter
+        ("0100 020000 020100 020200 0300 10 04", "program 17 5"),
+        ("020000 020100 020200 0302 10 04", "program 17 0"),
+        ("020000 020100 020200 0302 10 0300 10 04", "program 17 3"),
+        // two rules of one function are not one of another
+        ("020001 020101 0300 10 10 0300 12 10 04", "program 17 3"),
+        // first 2 and 3 of the end record: it is missing, or its rule is cut
+        ("020000", "program 2 3"),
+        ("020000 020100 0300 10", "program 2 9"),
+        ("020000 020100 0300 10 0301", "program 2 11"),
+        ("020000 06", "program 3 3"),
+        ("020000 020100 0300 10 10", "program 3 9"),
+        // then 11 and 10, and both
+        ("020000 04 04", "program 17 0"),
+        ("020000 020100 0300 10 0300 10 04", "program 17 3"),
+        ("020000 020100 0301 10 0301 10 04 04", "program 17 0"),
+    ];
+    for (program, expected) in table {
+        assert_eq!(check(program, "10"), expected, "{program}");
+    }
+    // before the question and the allowances
+    assert_eq!(check("0100 020000 04", ""), "program 17 2");
+    let line = |program| answer_line(format!("{program} 10 0 0 0 0 0 0").as_bytes());
+    assert_eq!(line("02000004"), "refused program 17 0");
+    assert_eq!(line("02000003001004"), "refused program 12 0");
+}
+
 #[test]
 fn questions() {
-    let program = "0100 020001 04";
+    let program = "0100 020001 0300 10 10 04";
     let table = [
         ("", "question 2 0"),
         ("10", "ok"),
@@ -142,7 +178,6 @@ fn counts_of_declarations_and_rules() {
     assert_eq!(with(&[&exceptions(17), &[4]]), "program 9 32");
     assert_eq!(with(&[&exceptions(16), &[1, 99, 4]]), "program 9 32");
     assert_eq!(with(&[&exceptions(16), &[1]]), "program 2 32");
-    assert_eq!(with(&[&functions(32), &[4]]), "ok");
     assert_eq!(with(&[&functions(33), &[4]]), "program 9 96");
     assert_eq!(with(&[&functions(32), &[2, 0, 5, 4]]), "program 9 96");
     assert_eq!(with(&[&functions(32), &[2, 32]]), "program 2 96");
@@ -150,10 +185,14 @@ fn counts_of_declarations_and_rules() {
         .flat_map(|f| [3, f, 0x10, 0x10, 3, f, 0x12, 0x10])
         .collect::<Vec<u8>>();
     assert_eq!(with(&[&functions(32), &rules, &[4]]), "ok");
+    // without rules of function 31, and of all, behind all exceptions
+    let declared = [exceptions(16), functions(32)].concat();
+    assert_eq!(with(&[&declared, &rules[..248], &[4]]), "program 17 125");
+    assert_eq!(with(&[&declared, &[4]]), "program 17 32");
     let past = [3, 77, 0x13, 0x10, 4];
     assert_eq!(with(&[&functions(32), &rules, &past]), "program 9 352");
     // 01 after the rules is 3 even past its ceiling
-    let all = [exceptions(16), functions(32), rules].concat();
+    let all = [declared, rules].concat();
     assert_eq!(with(&[&all, &[1, 0, 4]]), "program 3 384");
 }
 

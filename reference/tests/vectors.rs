@@ -3,7 +3,7 @@
 //! PUFFINEST_VECTORS names; without it, the repository's stored cases.
 
 use reference::calls;
-use reference::checker::{check_program, check_question};
+use reference::checker::{check_program, check_question, FUNCTION};
 use reference::lines::{answer_line, answer_text, from_hex, parse_case, Case};
 use reference::rewriter::{self, Rules};
 use reference::translator::{own_list, term_words};
@@ -69,9 +69,31 @@ fn accepted() -> Vec<(Case, Vec<String>)> {
 
 #[test]
 fn cases_and_answers() {
+    let mut tested = 0;
     for (i, (case, answer)) in cases().iter().enumerate() {
-        assert_eq!(answer_line(case.as_bytes()), *answer, "line {}", i + 1);
+        let ours = answer_line(case.as_bytes());
+        if !is_seventeen(case, &ours, answer) {
+            assert_eq!(ours, *answer, "line {}", i + 1);
+            tested += 1;
+        }
     }
+    assert!(tested >= 400, "{tested} cases");
+}
+
+/// The vectors are document 01's, which has no refusal 17. There it may stand for an
+/// answer that it comes before, and its place is a declaration's.
+fn is_seventeen(case: &str, ours: &str, answer: &str) -> bool {
+    let Some(place) = ours.strip_prefix("refused program 17 ") else {
+        return false;
+    };
+    let place: usize = place.parse().unwrap();
+    let program = parse_case(case.as_bytes()).unwrap().program;
+    let comes_later = match answer.split(' ').collect::<Vec<_>>()[..] {
+        ["ok", ..] | ["refused", "question", ..] => true,
+        ["refused", "program", number, _] => ["10", "11", "12", "13"].contains(&number),
+        _ => false,
+    };
+    vectors("answers.txt").is_some() && comes_later && program[place] == FUNCTION
 }
 
 /// What the evaluator's call says and what the rewriter's says.
@@ -131,8 +153,7 @@ fn traces() {
         Some(traces) => {
             let mut lines = traces.lines();
             while let Some(head) = lines.next() {
-                check_trace(head, &mut lines);
-                tested += 1;
+                tested += check_trace(head, &mut lines);
             }
             assert!(tested >= 10, "{tested} traces");
         }
@@ -169,13 +190,21 @@ fn seen_at(case: &Case, steps: usize) -> Vec<u16> {
     seen
 }
 
-/// A line `PROGRAM QUESTION N`, then N + 1 lines of words.
-fn check_trace<'a>(head: &str, lines: &mut impl Iterator<Item = &'a str>) {
+/// A line `PROGRAM QUESTION N`, then N + 1 lines of words: how many are tested, one or,
+/// where the program is refused by 17, none.
+fn check_trace<'a>(head: &str, lines: &mut impl Iterator<Item = &'a str>) -> u32 {
     let fields: Vec<&str> = head.split(' ').collect();
-    let program = check_program(&from_hex(fields[0].as_bytes()).unwrap()).unwrap();
+    let last: u64 = fields[2].parse().unwrap();
+    let program = match check_program(&from_hex(fields[0].as_bytes()).unwrap()) {
+        Ok(program) => program,
+        Err(refusal) => {
+            assert_eq!(refusal.number, 17, "{head}");
+            lines.nth(last as usize);
+            return 0;
+        }
+    };
     let question = from_hex(fields[1].as_bytes()).unwrap();
     let question = term_words(&check_question(&program, &question).unwrap());
-    let last: u64 = fields[2].parse().unwrap();
     let own = own_list(&program);
     let rules = Rules::new(&program, &own);
     let mut seen = Vec::new();
@@ -190,4 +219,5 @@ fn check_trace<'a>(head: &str, lines: &mut impl Iterator<Item = &'a str>) {
         let (_, held) = rewriter::rewrite(&rules, &question, steps as u64, 4_096, |_| {});
         assert_eq!(held, expected);
     }
+    1
 }

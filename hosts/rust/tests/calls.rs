@@ -87,11 +87,12 @@ fn each_ending() {
     assert_eq!(both("1900", 100, 6, 4), deep_and_big);
 }
 
-/// A program and a question that are refused by 1 to 11.
+/// A program and a question that are refused by 1 to 11, and by 17.
 fn refused() -> Vec<(Vec<u8>, Vec<u8>, &'static str)> {
     let long_right = ["020000 0300", &"11".repeat(128), "10 04"].concat();
     let many: String = (0..17).map(|e| format!("01{e:02x}")).collect();
-    let texts: [(&str, &str, &str); 15] = [
+    let lost = "0100 020000 020100 0300 10 0300 10 04 04"; // besides 10 and 11
+    let texts: [(&str, &str, &str); 18] = [
         (&"04".repeat(8_193), "10", "refused program 1 0"),
         ("", "10", "refused program 2 0"),
         ("0100 02", "10", "refused program 2 2"),
@@ -104,6 +105,9 @@ fn refused() -> Vec<(Vec<u8>, Vec<u8>, &'static str)> {
         (&many, "10", "refused program 9 32"),
         ("020000 0300 10 0300 11 10 04", "10", "refused program 10 6"),
         ("04 04", "10", "refused program 11 1"),
+        ("020000 04", "10", "refused program 17 0"),
+        (lost, "10", "refused program 17 5"),
+        ("020000 04", "11", "refused program 17 0"),
         ("04", "11", "refused question 2 1"),
         ("04", "1407", "refused question 7 0"),
         ("04", "10 10", "refused question 11 1"),
@@ -123,7 +127,7 @@ fn each_refusal_leaves_all_words() {
     };
     for (program, question, expected) in refused() {
         let mut lent = Lent::enough();
-        // A refusal by 1 to 11 comes before one by 12.
+        // A refusal by 1 to 11 or 17 comes before one by 12.
         check(evaluate(&program, &question, 1, 0), &lent, expected);
         let found = lent.rewrite(&program, &question, 1, 0);
         check(found, &lent, expected);
@@ -160,7 +164,7 @@ fn each_refusal_leaves_all_words() {
     }
     reasons.sort_unstable();
     reasons.dedup();
-    assert_eq!(reasons, (1..=13).collect::<Vec<u8>>());
+    assert_eq!(reasons, (1..=13).chain([17]).collect::<Vec<u8>>());
 }
 
 /// The words that the rewriter's call writes into the first slice.
@@ -225,7 +229,8 @@ fn the_deepest_runs() {
         }
         // Calls in the fourth argument of calls.
         let nested = "1900 10 10 10".repeat(31);
-        let program = bytes(&["020004 020100 0301", &nested, "1901 04"].concat());
+        let head = "020004 020100 0300 1400 1401 1402 1403 10 0301";
+        let program = bytes(&[head, &nested, "1901 04"].concat());
         let evaluated = evaluate(&program, &bytes("1901"), 1_000_000, 1_000);
         assert_eq!(evaluated.unwrap().ending, Ending::TooDeep);
     };
