@@ -9,7 +9,7 @@ use borrow.Author.Tests.{eq-eqb, ne-eqb}
 use Rattle.theory.specs.Syntax.{Term, pick}
 use Rattle.theory.specs.Bytes.{Result, refused, good, Refusal, Declared, Book, readProgram, readQuestion}
 use Rattle.theory.specs.Answers.{theProgram, theQuestion, Verdict, refuses, accepts, onQuestion, onProgram, judged}
-use Rattle.theory.proofs.Refused.{program-refusal-bounded}
+use Rattle.theory.proofs.Refused.{program-refusal-number, not-zero, program-refusal-bounded}
 use Rattle.theory.proofs.Refused as refusals
 use Rattle.checker.specs.declared.Checked.{Checked}
 use Rattle.checker.specs.declared.Verdict as checker
@@ -104,9 +104,8 @@ module _ (p : List ℕ) (c : Checked) (e : c ≡ checkedOf (readProgram p)) wher
               → refusedBy (v .number) 2 (v .place) ≡ verdictReport (judged p q)
           by-answer s read w (refused x) h =
               let k = w ∙ ap verdictOf h in
-              let b = question-refusal-small (s .decls) q x h in
               ap (λ (y : checker.Verdict). refusedBy (y .number) 2 (y .place)) k
-              ∙ refused-by (x .number) 2 (x .place) (λ i. omega (arith, b .1, i)) ∙ sym (ap verdictReport (question-judged p q s x read h))
+              ∙ refused-by (x .number) 2 (x .place) (λ i. omega (arith, refusals.question-refused (s .decls) q x h .from, i)) ∙ sym (ap verdictReport (question-judged p q s x read h))
           by-answer s read w (good t) h =
               ap (λ (y : checker.Verdict). refusedBy (y .number) 2 (y .place)) (w ∙ ap verdictOf h)
               ∙ refused-by-none 0 2 0 refl ∙ sym (ap verdictReport (both-judged p q s t read h))
@@ -120,10 +119,10 @@ accepted p q j e z = by-program (readProgram p) refl
     number-is v h = ap (λ (x : Judged). x .refusal .number) e ∙ ap (λ (x : Verdict). verdictReport x .number) h
 
     by-question : (s : Book) → readProgram p ≡ good s → (x : Result Term) → readQuestion (s .decls) q ≡ x → Accepts p q (j .checked)
-    by-question s k (refused r) h = absurd (let b = question-refusal-small (s .decls) q r h in omega (arith, z, number-is _ (question-judged p q s r k h), b .1))
+    by-question s k (refused r) h = absurd (omega (arith, z, number-is _ (question-judged p q s r k h), refusals.question-refused (s .decls) q r h .from))
     by-question s k (good t) h =
         record { checks = record { book = s; program-read = k; answer = ap (λ (x : Judged). x .checked) e ∙ ap checkedOf k }; term = t; question-read = h }
 
     by-program : (x : Result Book) → readProgram p ≡ x → Accepts p q (j .checked)
-    by-program (refused r) h = absurd (let b = program-refusal-small p r h in omega (arith, z, number-is _ (program-judged p q r h), b .1))
+    by-program (refused r) h = absurd (omega (arith, z, number-is _ (program-judged p q r h), not-zero (r .number) (program-refusal-number p r h)))
     by-program (good s) h = by-question s h (readQuestion (s .decls) q) refl

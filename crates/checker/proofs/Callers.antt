@@ -1,26 +1,21 @@
 -- What a caller learns of an accepted program and of an accepted question.
 use Prim.Native.Nat.{ℕ, zero, suc, _≤_}
 use mathlib.Core.Path.{_≡_, refl, sym, ap, _∙_}
-use mathlib.Core.Logic.{inl, inr}
 use mathlib.Core.List.{List, [], _∷_}
 use native.Mathlib.Omega.{arith}
-use lib.Dec.{eqb, leb, ltb}
 use lib.ListN.{length, take, drop}
-use Rattle.theory.specs.Syntax.{choose, Term}
-use Rattle.theory.specs.Bytes.{Result, refused, good, refuse, ifGood, RuleAt, addLast, Book, ruleCount, overlapsEarlier, refuseOverlaps, readRecords, emptyBook, readProgram, inQuestion, readSide, termsFrom, nthTerm, readQuestion}
+use Rattle.theory.specs.Syntax.{Term}
+use Rattle.theory.specs.Bytes.{Result, refused, good, Book, ruleCount, readProgram, readQuestion}
 use Rattle.theory.specs.Bytes
 use Rattle.checker.specs.declared.Checked.{Checked}
 use Rattle.checker.specs.declared.Verdict.{Verdict}
-use Rattle.checker.specs.declared.declarations.Top.{Top}
 use Rattle.checker.specs.Answer.{padded, table, refusedAs, checkedOf, declared, verdictOf}
 use Rattle.theory.specs.Bytes.{openedAt}
-use Rattle.checker.specs.Declarations.{Kept, stopTop, startTop, ownArities}
-use Rattle.checker.specs.Program.{turnOf, turns, parseOf, topAt, topOf}
-use Rattle.checker.proofs.program.Turns.{turn-goes, start-kept}
-use Rattle.checker.proofs.program.Theory.{own-are, parse-is}
-use Rattle.theory.specs.Demands.{OfReading}
+use Rattle.checker.specs.Declarations.{ownArities}
+use Rattle.checker.specs.Program.{topAt}
+use Rattle.checker.proofs.program.Theory.{own-are}
 use Rattle.theory.proofs.AcceptedExactly.{count-length, accepted-exactly}
-use Rattle.theory.proofs.Refused.{program-refusal-number, question-refused}
+use Rattle.theory.proofs.Refused.{program-refusal-number, not-zero, question-refused}
 
 -- A program is accepted exactly where the answer's number is 0, and the answer then has its declarations.
 pub program-read : (ws : List ℕ) (c : Checked) → c ≡ checkedOf (readProgram ws) → c .number ≡ 0 → (s : Book) × ((readProgram ws ≡ good s) × (c ≡ checkedOf (good s)))
@@ -30,14 +25,9 @@ program-read ws c e z = by-answer (readProgram ws) refl
     number-is : (r : Bytes.Refusal) → checkedOf (refused r) .number ≡ r .number
     number-is r = refl
 
-    -- no refusal has the number 0
-    not-zero : (n : ℕ) → OfReading n → n ≡ 0 → ⊥
-    not-zero n (inl h) i = omega (arith, h .0, i)
-    not-zero n (inr h) i = omega (arith, h, i)
-
     by-answer : (r : Result Book) → readProgram ws ≡ r → (s : Book) × ((readProgram ws ≡ good s) × (c ≡ checkedOf (good s)))
     by-answer (refused r) h =
-        absurd (not-zero (r .number) (program-refusal-number ws r h) (sym (number-is r) ∙ sym (ap (λ (x : Checked). x .number) (e ∙ ap checkedOf h)) ∙ z))
+        absurd (omega (arith, not-zero (r .number) (program-refusal-number ws r h), sym (number-is r) ∙ sym (ap (λ (x : Checked). x .number) (e ∙ ap checkedOf h)) ∙ z))
     by-answer (good s) h = (s, (h, e ∙ ap checkedOf h))
 
 -- The same of a question.

@@ -98,6 +98,10 @@ program-refusal-number p r e = by (program-refused p r e)
     by (left-over n i j) = inl (omega (arith, n), omega (arith, n))
     by (overlaps n i j) = inl (omega (arith, n), omega (arith, n))
 
+pub not-zero : (n : ℕ) → OfReading n → 1 ≤ n
+not-zero n (inl h) = h .0
+not-zero n (inr h) = omega (arith, h)
+
 -- the records alone are refused by no 0 either
 pub records-refusal-number : (p : List ℕ) (r : Refusal) → readRecords (suc (length p)) emptyBook 0 p ≡ refused r → 1 ≤ r .number
 records-refusal-number p r e = by (subst (Ends (length p) (ReadFrom p)) e (records-end p))

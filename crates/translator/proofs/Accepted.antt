@@ -6,18 +6,17 @@ use mathlib.Core.List.{List, [], _∷_, _++_, append-assoc}
 use Prim.Native.Nat.{ℕ, zero, suc, _+_, _-_, _≤_, _<_}
 use native.Mathlib.Omega.{arith}
 use lib.ListN.{length, getD, drop, length-drop}
-use lib.Seq.{drop-drop, getD-drop, drop-append-seam, drop-append-add}
+use lib.Seq.{drop-drop, getD-drop, drop-append-seam}
 use borrow.Author.Tests.{le-ltb}
 use Rattle.theory.proofs.Accepted.{length-funs}
 use Rattle.theory.proofs.SidesRead.{low-pats}
 use Rattle.theory.specs.Syntax.{Pat, pbase, psucc, pvar, many, Fun, pick}
 use Rattle.theory.specs.Builtins.{builtinFuns, nthFun, funOf, numbersOf}
 use Rattle.theory.specs.Tree.{Rule, _▹_}
-use Rattle.theory.specs.Proper.{patVars, patsVars}
 use Rattle.theory.specs.Words.{words, storedRules}
 use Rattle.theory.specs.Translation.{tree, trees, patT, patTs, succT, exnRules, funRules, gather, numbers, ownList}
 use Rattle.theory.specs.Bytes.{firstTerms, good, Declared, nthArity, RuleAt, Book, readProgram, defsOf, funsOf, programOf, Agrees}
-use Rattle.theory.specs.Encoding.{encode, encodePats, encodeRule, encodeRules, encodeExns, encodeFuns, OverDeclared, AllOverDeclared, Each, ValidRule, OpenedFrom}
+use Rattle.theory.specs.Encoding.{encode, encodePats, encodeRule, Each, ValidRule}
 use Rattle.theory.proofs.RecordsOfTerms.{termOf, termsOf, pats-many, pats-bytes, pats-words}
 use Rattle.theory.proofs.AcceptedExactly.{accepted-exactly}
 use Rattle.theory.proofs.RecordsStand.{StandsAt, rules-stand}
