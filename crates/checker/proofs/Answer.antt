@@ -23,7 +23,7 @@ use Rattle.checker.specs.Overlap.{firstClash}
 use Rattle.checker.proofs.program.Theory.{pad-take, own-are, opened-many, parse-is}
 use Rattle.theory.specs.Encoding.{Each}
 use Rattle.theory.proofs.SidesGive.{ok-of}
-use Rattle.theory.proofs.AcceptedExactly.{AllRead, records-read}
+use Rattle.theory.proofs.ProgramRead.{AllRead, records-read}
 use Rattle.theory.proofs.Refused.{records-refusal-number}
 use Rattle.checker.proofs.Rules.{Stands, all-stand}
 use Rattle.checker.proofs.overlap.Theory.{asResult, overlap-is}

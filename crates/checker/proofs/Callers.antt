@@ -14,7 +14,8 @@ use Rattle.theory.specs.Bytes.{openedAt}
 use Rattle.checker.specs.Declarations.{ownArities}
 use Rattle.checker.specs.Program.{topAt}
 use Rattle.checker.proofs.program.Theory.{own-are}
-use Rattle.theory.proofs.AcceptedExactly.{count-length, accepted-exactly}
+use Rattle.theory.proofs.ProgramRead.{count-length}
+use Rattle.theory.proofs.AcceptedExactly.{accepted-exactly}
 use Rattle.theory.proofs.Refused.{program-refusal-number, not-zero, question-refused}
 
 -- A program is accepted exactly where the answer's number is 0, and the answer then has its declarations.

@@ -7,7 +7,7 @@ use lib.ListN.{length, getD, drop, length-drop}
 use lib.Seq.{drop-drop, getD-drop}
 use Rattle.theory.specs.Bytes.{Declared, RuleAt, Book}
 use Rattle.theory.specs.Encoding.{encode, encodePats, encodeRule, encodeProgram, Each, ValidRule, Readable}
-use Rattle.theory.proofs.AcceptedExactly.{each-both}
+use Rattle.theory.proofs.Lists.{each-both}
 use Rattle.theory.proofs.RecordsStand.{StandsAt, rules-stand}
 use Rattle.checker.proofs.node.Laws.{nth-getD}
 

@@ -11,7 +11,7 @@ use Rattle.theory.specs.Syntax.{choose}
 use Rattle.theory.specs.Bytes.{Refusal, Result, refused, good, refuse, ifGood, Declared, RuleAt, Book, hasRule, declaredAt, refuseLost, readEnd}
 use Rattle.theory.specs.Encoding.{HasRule, EveryRuled}
 use Rattle.theory.proofs.Tests.{eqb-true, eq-of-eqb, ne-of-eqb}
-use Rattle.theory.proofs.Lists.{none-left}
+use Rattle.theory.proofs.Lists.{none-left, or-right}
 
 -- THE TEST of a function, and what it means
 has-of : (f : ℕ) (rs : List RuleAt) → hasRule f rs ≡ true → HasRule rs f
@@ -25,11 +25,7 @@ has-of f (r ∷ rs) h = go (eqb (r .owner) f) refl (has-of f rs) h
 of-has : (f : ℕ) (rs : List RuleAt) → HasRule rs f → hasRule f rs ≡ true
 of-has f [] h = absurd h
 of-has f (r ∷ rs) (inl h) = ap (λ (b : Bool). b || hasRule f rs) (eqb-true (r .owner) f h)
-of-has f (r ∷ rs) (inr h) = ap (λ (b : Bool). eqb (r .owner) f || b) (of-has f rs h) ∙ or-true (eqb (r .owner) f)
-  where
-    or-true : (a : Bool) → (a || true) ≡ true
-    or-true true = refl
-    or-true false = refl
+of-has f (r ∷ rs) (inr h) = or-right (eqb (r .owner) f) (hasRule f rs) (of-has f rs h)
 
 none-of : (f : ℕ) (rs : List RuleAt) → hasRule f rs ≡ false → HasRule rs f → ⊥
 none-of f rs e h = false≢true (sym e ∙ of-has f rs h)

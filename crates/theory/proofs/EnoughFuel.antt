@@ -11,7 +11,7 @@ use Rattle.theory.specs.Bytes.{recordParts, recordWords, nthTerm, termsF
 use Rattle.theory.specs.Encoding.{encode, encodePats}
 use Rattle.theory.proofs.SidesGive.{Ok}
 use Rattle.theory.proofs.SidesRead.{Spelt, IsNext, next-is, next-long, LeftReads, RightReads, left-reads, right-reads}
-use Rattle.theory.proofs.AcceptedExactly.{withExn, withFun, withRule}
+use Rattle.theory.proofs.ProgramRead.{withExn, withFun, withRule}
 
 -- the same results, from the same results of the parts
 also-same : {A B : Type 0} (Q : A → Type 0) (r : Result A) (f g : A → Result B) → Ok Q r → ((a : A) → Q a → f a ≡ g a) → ifGood r f ≡ ifGood r g

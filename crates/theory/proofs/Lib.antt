@@ -32,6 +32,8 @@ pub mod RecordsOfTerms
 pub mod SidesRead
 pub mod SidesRefuse
 pub mod EndRecord
+pub mod RulesApart
+pub mod ProgramRead
 pub mod AcceptedExactly
 pub mod Accepted
 pub mod EnoughFuel

@@ -1,4 +1,4 @@
--- Lists of numbers: what is in them, and what stands from a place on.
+-- Lists: what is in them, what stands from a place on, and what holds of each of their things.
 use Prim.Native.Nat.{ℕ, _+_, _<_}
 use mathlib.Core.Path.{_≡_, refl, sym, ap, _∙_, subst}
 use mathlib.Core.Logic.{_⊎_, inl, inr, ⊎-elim}
@@ -11,13 +11,15 @@ use lib.ListN.{length, getD, drop}
 use lib.Seq.{drop-cons, drop-drop, drop-append-seam}
 use Rattle.theory.specs.Syntax.{elem}
 use Rattle.theory.specs.Proper.{AllIn}
+use Rattle.theory.specs.Bytes.{addLast}
+use Rattle.theory.specs.Encoding.{Each}
 use Rattle.theory.proofs.Tests.{eq-of-eqb}
 
 pub or-true : (a b : Bool) → (a || b) ≡ true → (a ≡ true) ⊎ (b ≡ true)
 or-true true b e = inl refl
 or-true false b e = inr e
 
-or-right : (a b : Bool) → b ≡ true → (a || b) ≡ true
+pub or-right : (a b : Bool) → b ≡ true → (a || b) ≡ true
 or-right true b e = refl
 or-right false b e = e
 
@@ -54,3 +56,24 @@ drop-next ws p h = rw add-one (drop-cons ws p 0 h)
 -- where xs stand at the place p, what stands behind them
 pub past-it : (ws xs ys : List ℕ) (p : ℕ) → drop p ws ≡ xs ++ ys → drop (p + length xs) ws ≡ ys
 past-it ws xs ys p e = sym (drop-drop (length xs) p ws) ∙ ap (drop (length xs)) e ∙ drop-append-seam xs ys
+
+-- each of a list's things
+pub each-snoc : {A : Type 0} (P : A → Type 0) (xs : List A) (x : A) → Each P xs → P x → Each P (addLast xs x)
+each-snoc P [] x h k = (k, tt)
+each-snoc P (y ∷ xs) x h k = (h .0, each-snoc P xs x (h .1) k)
+
+pub each-before : {A : Type 0} (P : A → Type 0) (xs : List A) (x : A) → Each P (addLast xs x) → Each P xs
+each-before P [] x h = tt
+each-before P (y ∷ xs) x h = (h .0, each-before P xs x (h .1))
+
+pub each-last : {A : Type 0} (P : A → Type 0) (xs : List A) (x : A) → Each P (addLast xs x) → P x
+each-last P [] x h = h .0
+each-last P (y ∷ xs) x h = each-last P xs x (h .1)
+
+pub each-both : {A : Type 0} (P Q R : A → Type 0) (xs : List A) → ((x : A) → P x → Q x → R x) → Each P xs → Each Q xs → Each R xs
+each-both P Q R [] f h k = tt
+each-both P Q R (x ∷ xs) f h k = (f x (h .0) (k .0), each-both P Q R xs f (h .1) (k .1))
+
+pub each-map : {A : Type 0} (P Q : A → Type 0) (xs : List A) → ((x : A) → P x → Q x) → Each P xs → Each Q xs
+each-map P Q [] f h = tt
+each-map P Q (x ∷ xs) f h = (f x (h .0), each-map P Q xs f (h .1))

@@ -7,7 +7,7 @@ use lib.ListN.{length, drop, length-drop}
 use lib.Seq.{drop-drop, drop-append-seam, drop-append-add}
 use Rattle.theory.specs.Bytes.{nthArity, RuleAt, Book, declaredAt}
 use Rattle.theory.specs.Encoding.{encodeRule, encodeRules, encodeExns, encodeFuns, encodeProgram, Each, OpenedFrom, Readable, LostAt}
-use Rattle.theory.proofs.AcceptedExactly.{ending, encoded-behind}
+use Rattle.theory.proofs.ProgramRead.{ending, encoded-behind}
 
 past-exceptions : (e n m : ℕ) (z : List ℕ) → drop (2 * n + m) (encodeExns e n ++ z) ≡ drop m z
 past-exceptions e zero m z =

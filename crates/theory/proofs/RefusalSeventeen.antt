@@ -14,7 +14,8 @@ use Rattle.theory.specs.Bytes.{Result, good, refuse, ifGood, RuleAt, Boo
 use Rattle.theory.specs.Encoding.{encodeProgram, HasRule, ReadsThrough, Lost, LostAt}
 use Rattle.theory.proofs.Tests.{leb-true, eqb-true}
 use Rattle.theory.proofs.EndRecord.{end-lost, lowest-lost}
-use Rattle.theory.proofs.AcceptedExactly.{records-back, accepted-exactly}
+use Rattle.theory.proofs.ProgramRead.{records-back}
+use Rattle.theory.proofs.AcceptedExactly.{accepted-exactly}
 use Rattle.theory.proofs.Refused.{ProgramRefused, too-long, early, lost, left-over, overlaps, program-refused}
 use Rattle.theory.proofs.Accepted.{declared-function}
 

@@ -17,7 +17,7 @@ use Rattle.theory.proofs.Tests.{le-of-leb, ne-of-eqb}
 use Rattle.theory.proofs.SidesGive.{ok-of}
 use Rattle.theory.proofs.SidesRefuse.{SideEnds, side-ends}
 use Rattle.theory.proofs.EndRecord.{EndSays, end-says}
-use Rattle.theory.proofs.AcceptedExactly.{ReadFrom, Ends, Ended, AllRead, records-end, records-read}
+use Rattle.theory.proofs.ProgramRead.{ReadFrom, Ends, Ended, AllRead, records-end, records-read}
 use Rattle.theory.proofs.RecordsStand.{lost-place-within}
 
 -- two rules overlap, of a program whose records are read

@@ -15,7 +15,7 @@ use Rattle.checker.specs.declared.overlap.Overlap.the-variants.{At, Nowh
 use Rattle.theory.specs.Bytes.{openedAt}
 use Rattle.checker.specs.Overlap.{clashAt, anyClash, firstClash}
 use Rattle.theory.specs.Encoding.{encode, Each}
-use Rattle.theory.proofs.AcceptedExactly.{each-snoc}
+use Rattle.theory.proofs.Lists.{each-snoc}
 use Rattle.checker.proofs.overlap.Laws.{clash-other, clash-same}
 use Rattle.checker.proofs.overlap.Encode.{args-are}
 use Rattle.checker.proofs.Rules.{Stands}

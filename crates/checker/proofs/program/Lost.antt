@@ -11,16 +11,13 @@ use lib.Seq.{drop-cons}
 use borrow.Author.Tests.{eq-eqb, ne-eqb, lt-ltb}
 use Rattle.theory.specs.Syntax.{choose}
 use Rattle.theory.specs.Bytes.{Result, good, refuse, Declared, RuleAt, addLast, hasRule, declaredAt, refuseLost}
+use Rattle.theory.proofs.Lists.{or-right}
 use Rattle.checker.specs.Program.{lostFrom, marks}
 
 -- one rule more
 has-this : (f : ℕ) (rs : List RuleAt) (r : RuleAt) → r .owner ≡ f → hasRule f (addLast rs r) ≡ true
 has-this f [] r e = rw (eq-eqb (r .owner) f e)
-has-this f (q ∷ qs) r e = ap (λ (b : Bool). eqb (q .owner) f || b) (has-this f qs r e) ∙ or-true (eqb (q .owner) f)
-  where
-    or-true : (a : Bool) → (a || true) ≡ true
-    or-true true = refl
-    or-true false = refl
+has-this f (q ∷ qs) r e = or-right (eqb (q .owner) f) (hasRule f (addLast qs r)) (has-this f qs r e)
 
 has-others : (f : ℕ) (rs : List RuleAt) (r : RuleAt) → (r .owner ≡ f → ⊥) → hasRule f (addLast rs r) ≡ hasRule f rs
 has-others f [] r h = rw (ne-eqb (r .owner) f h)
