@@ -1,6 +1,6 @@
 -- REFUSAL 17 EXACTLY (document 02, Q-9): where the bytes read through the end record and some declared function has no rule, at the declaration
 -- of the lowest such function, and nowhere else; and every function of an accepted program has a rule.
-use Prim.Native.Nat.{ℕ, zero, suc, _+_, _<_}
+use Prim.Native.Nat.{ℕ, suc, _+_, _<_}
 use mathlib.Core.Path.{_≡_, refl, sym, ap, _∙_}
 use mathlib.Core.Logic.{_↔_, inl, inr}
 use mathlib.Core.Bool.{Bool, true, false}
@@ -9,7 +9,6 @@ use native.Mathlib.Omega.{arith}
 use lib.Dec.{eqb}
 use lib.ListN.{length}
 use Rattle.theory.specs.Syntax.{Def, Fun, choose, pick}
-use Rattle.theory.specs.Builtins.{nthFun}
 use Rattle.theory.specs.Bytes.{Result, good, refuse, ifGood, RuleAt, Book, declaredAt, readRecords, readEnd, refuseOverlaps, defsOf, funsOf, emptyBook, readProgram, programOf}
 use Rattle.theory.specs.Encoding.{encodeProgram, HasRule, ReadsThrough, Lost, LostAt}
 use Rattle.theory.proofs.Tests.{leb-true, eqb-true}
@@ -17,7 +16,7 @@ use Rattle.theory.proofs.EndRecord.{end-lost, lowest-lost}
 use Rattle.theory.proofs.ProgramRead.{records-back}
 use Rattle.theory.proofs.AcceptedExactly.{accepted-exactly}
 use Rattle.theory.proofs.Refused.{ProgramRefused, too-long, early, lost, left-over, overlaps, program-refused}
-use Rattle.theory.proofs.Accepted.{declared-function}
+use Rattle.theory.proofs.Accepted.{declared-function, nth-fun}
 
 refused-lost : (p : List ℕ) (q : ℕ) → readProgram p ≡ refuse 17 q → LostAt p q
 refused-lost p q e = by (program-refused p (record { number = 17; place = q }) e)
@@ -68,18 +67,15 @@ owned f (r ∷ rs) (inr h) = go (eqb (r .owner) f) (owned f rs h)
     go true k = (r .sides, defsOf f rs, refl)
     go false k = k
 
-nth-defs : (i f : ℕ) (ns : List ℕ) (rs : List RuleAt) → f < length ns → nthFun (funsOf i ns rs) f .defs ≡ defsOf (i + f) rs
-nth-defs i f [] rs h = absurd (omega (arith, h))
-nth-defs i zero (a ∷ ns) rs h =
-    let e : i ≡ i + 0 = omega arith in
-    ap (λ (j : ℕ). defsOf j rs) e
-nth-defs i (suc f) (a ∷ ns) rs h =
-    let e : suc i + f ≡ i + suc f = omega arith in
-    nth-defs (suc i) f ns rs (omega (arith, h)) ∙ ap (λ (j : ℕ). defsOf j rs) e
-
 pub accepted-has-rule : (p : List ℕ) (s : Book) → readProgram p ≡ good s → (f : ℕ) → f < length (s .decls .arities)
     → (d : Def) × (ds : List Def) × (programOf s .fun (16 + f) .defs ≡ d ∷ ds)
 accepted-has-rule p s e f h =
+    let D = s .decls in
     let z : 0 + f ≡ f = omega arith in
-    let o = owned f (s .rulesAt) (accepted-exactly p s .0 e .1 .every-function f h) in
-    (o .0, o .1, ap (λ (g : Fun). g .defs) (declared-function (funsOf 0 (s .decls .arities) (s .rulesAt)) f) ∙ nth-defs 0 f (s .decls .arities) (s .rulesAt) h ∙ ap (λ (j : ℕ). defsOf j (s .rulesAt)) z ∙ o .2)
+    let o = owned f (s .rulesAt) (accepted-exactly p s .0 e .1 .every-function f h) in (
+      o .0,
+      o .1,
+      ap (λ (g : Fun). g .defs) (declared-function (funsOf 0 (D .arities) (s .rulesAt)) f ∙ nth-fun 0 (D .arities) (s .rulesAt) f h)
+          ∙ ap (λ (j : ℕ). defsOf j (s .rulesAt)) z
+          ∙ o .2,
+    )

@@ -1,17 +1,15 @@
 -- AN ACCEPTED PROGRAM'S RULES stand at their openings; its own list, from its bytes, is that of the program that is read; an accepted
 -- question's words are those of the term that is read.
 use mathlib.Core.Path.{_≡_, refl, sym, ap, ap₂, _∙_, subst}
-use mathlib.Core.Bool.{Bool}
 use mathlib.Core.List.{List, [], _∷_, _++_, append-assoc}
 use Prim.Native.Nat.{ℕ, zero, suc, _+_, _-_, _≤_, _<_}
 use native.Mathlib.Omega.{arith}
 use lib.ListN.{length, getD, drop, length-drop}
 use lib.Seq.{drop-drop, getD-drop, drop-append-seam}
-use borrow.Author.Tests.{le-ltb}
-use Rattle.theory.proofs.Accepted.{length-funs}
+use Rattle.theory.proofs.Accepted.{declared-function, nth-fun, length-funs}
 use Rattle.theory.proofs.SidesRead.{low-pats}
-use Rattle.theory.specs.Syntax.{Pat, pbase, psucc, pvar, many, Fun, pick}
-use Rattle.theory.specs.Builtins.{builtinFuns, nthFun, funOf, numbersOf}
+use Rattle.theory.specs.Syntax.{Pat, pbase, psucc, pvar, many, Fun}
+use Rattle.theory.specs.Builtins.{funOf, numbersOf}
 use Rattle.theory.specs.Tree.{Rule, _▹_}
 use Rattle.theory.specs.Words.{words, storedRules}
 use Rattle.theory.specs.Translation.{tree, trees, patT, patTs, succT, exnRules, funRules, gather, numbers, ownList}
@@ -123,14 +121,6 @@ each-nth [] i l h = absurd (omega arith)
 each-nth (a ∷ ns) zero l h = h .0
 each-nth (a ∷ ns) (suc i) l h = each-nth ns i (omega arith) (h .1)
 
--- the functions of a program, from its declarations and its rules
-nth-fun : (f : ℕ) (ns : List ℕ) (rs : List RuleAt) (i : ℕ) → i < length ns → nthFun (funsOf f ns rs) i ≡ record { arity = nthArity ns i; defs = defsOf (f + i) rs }
-nth-fun f [] rs i h = absurd (omega arith)
-nth-fun f (a ∷ ns) rs zero h = let z : f ≡ f + 0 = omega arith in ap (λ (j : ℕ). record { arity = a; defs = defsOf j rs }) z
-nth-fun f (a ∷ ns) rs (suc i) h =
-    let z : suc f + i ≡ f + suc i = omega arith in
-    nth-fun (suc f) ns rs i (omega arith) ∙ ap (λ (j : ℕ). record { arity = nthArity ns i; defs = defsOf j rs }) z
-
 gather-same : (F G : ℕ → List Rule) (m : ℕ) → ((i : ℕ) → i < m → F (16 + i) ≡ G i) → (gs : List Fun) (j : ℕ) → j + length gs ≤ m → gather F (numbersOf (16 + j) gs) ≡ gather G (numbers j (length gs))
 gather-same F G m h [] j l = refl
 gather-same F G m h (g ∷ gs) j l =
@@ -157,10 +147,8 @@ own-is arities bytes s e h = ap (exnRules (s .decls .exceptions) ++_)
 
     same-fun : (i : ℕ) → i < m → funOf fs (16 + i) ≡ funAt arities bytes i
     same-fun i l =
-        let z : 16 + i - 16 ≡ i = omega arith in
         let y : 0 + i ≡ i = omega arith in
-        ap (λ (b : Bool). pick b (nthFun builtinFuns (16 + i)) (nthFun fs (16 + i - 16))) (le-ltb (16 + i) 16 (omega arith))
-        ∙ ap (nthFun fs) z
+        declared-function fs i
         ∙ nth-fun 0 ns rs i l
         ∙ ap₂ (λ (a j : ℕ). record { arity = a; defs = defsOf j rs }) (sym (h .declared i l)) y
         ∙ ap (λ (xs : List RuleAt). record { arity = getD arities (16 + i) 0; defs = defsOf i xs }) (sym (ap rulesOf e))
