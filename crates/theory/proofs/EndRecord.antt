@@ -9,7 +9,7 @@ use lib.Dec.{eqb}
 use lib.ListN.{length}
 use Rattle.theory.specs.Syntax.{choose}
 use Rattle.theory.specs.Bytes.{Refusal, Result, refused, good, refuse, ifGood, Declared, RuleAt, Book, hasRule, declaredAt, refuseLost, readEnd}
-use Rattle.theory.specs.Encoding.{HasRule, EveryRuled}
+use Rattle.theory.specs.Encoding.{HasRule, EveryRuled, Lost, LowestLost}
 use Rattle.theory.proofs.Tests.{eqb-true, eq-of-eqb, ne-of-eqb}
 use Rattle.theory.proofs.Lists.{none-left, or-right}
 
@@ -40,14 +40,14 @@ this-or-later P f n h k g l m = go (eqb f g) refl
     go false e = let d = ne-of-eqb f g e in k g (omega (arith, l, d)) m
 
 module _ (D : Declared) (rs : List RuleAt) where
-  pub record Lowest (f : ℕ) (ns : List ℕ) (r : Refusal) : Type 0 where
-    pub lost : ℕ
-    pub from : f ≤ lost
-    pub below : lost < f + length ns
-    pub no-rule : HasRule rs lost → ⊥
-    pub lower : (g : ℕ) → f ≤ g → g < lost → HasRule rs g
-    pub number : r .number ≡ 17
-    pub place : r .place ≡ declaredAt D lost
+  record Lowest (f : ℕ) (ns : List ℕ) (r : Refusal) : Type 0 where
+    lost : ℕ
+    from : f ≤ lost
+    below : lost < f + length ns
+    no-rule : HasRule rs lost → ⊥
+    lower : (g : ℕ) → f ≤ g → g < lost → HasRule rs g
+    number : r .number ≡ 17
+    place : r .place ≡ declaredAt D lost
 
   abbrev AllRuled : ℕ → List ℕ → Type 0
   AllRuled f ns = (g : ℕ) → f ≤ g → g < f + length ns → HasRule rs g
@@ -107,15 +107,21 @@ module _ (D : Declared) (rs : List RuleAt) where
       ∙ lost-none (suc f) ns (λ g l m. h g (omega (arith, l)) (omega (arith, m)))
 
 -- THE RECORD: good, with nothing behind it and no function lost; or 17 by the search; or else 11, behind the record
-abbrev pub LowestLost : Book → Refusal → Type 0
-LowestLost s = Lowest (s .decls) (s .rulesAt) 0 (s .decls .arities)
+pub record LostSaid (s : Book) (r : Refusal) : Type 0 where
+  pub function : ℕ
+  pub lowest : LowestLost s function
+  pub number : r .number ≡ 17
+  pub place : r .place ≡ declaredAt (s .decls) function
 
 abbrev pub EndSays : Book → ℕ → List ℕ → Result Book → Type 0
-EndSays s p bs (refused r) = LowestLost s r ⊎ ((r .number ≡ 11) × (r .place ≡ p))
+EndSays s p bs (refused r) = LostSaid s r ⊎ ((r .number ≡ 11) × (r .place ≡ p))
 EndSays s p bs (good t) = (s ≡ t) × (bs ≡ []) × EveryRuled s
 
 searched : (s : Book) → Tells (s .decls) (s .rulesAt) 0 (s .decls .arities) (refuseLost (s .decls) (s .rulesAt) 0 (s .decls .arities))
 searched s = lost-tells (s .decls) (s .rulesAt) 0 (s .decls .arities)
+
+lowest-of : (s : Book) (r : Refusal) (h : Lowest (s .decls) (s .rulesAt) 0 (s .decls .arities) r) → LowestLost s (h .lost)
+lowest-of s r h = let b = h .below in ((omega (arith, b), h .no-rule), λ g l. h .lower g (omega arith) l)
 
 pub end-says : (s : Book) (p : ℕ) (bs : List ℕ) → EndSays s p bs (readEnd s p bs)
 end-says s p bs = go (refuseLost (s .decls) (s .rulesAt) 0 (s .decls .arities)) (searched s)
@@ -125,25 +131,22 @@ end-says s p bs = go (refuseLost (s .decls) (s .rulesAt) 0 (s .decls .arities)) 
     left false e h = inr (refl, refl)
 
     go : (r : Result (Unit {0})) → Tells (s .decls) (s .rulesAt) 0 (s .decls .arities) r → EndSays s p bs (ifGood r (λ u. choose (eqb (length bs) 0) (λ u. good s) (λ u. refuse 11 p)))
-    go (refused r) h = inl h
+    go (refused r) h = inl (record { function = h .lost; lowest = lowest-of s r h; number = h .number; place = h .place })
     go (good u) h = left (eqb (length bs) 0) refl (λ f l. h f (omega arith) (omega (arith, l)))
 
 -- and the other way
 pub end-good : (s : Book) (p : ℕ) → EveryRuled s → readEnd s p [] ≡ good s
 end-good s p h = ap (λ (r : Result (Unit {0})). ifGood r (λ u. good s)) (lost-none (s .decls) (s .rulesAt) 0 (s .decls .arities) (λ g l m. h g (omega (arith, m))))
 
-pub end-lost : (s : Book) (p : ℕ) (bs : List ℕ) (l : ℕ) → l < length (s .decls .arities) → (HasRule (s .rulesAt) l → ⊥) → ((g : ℕ) → g < l → HasRule (s .rulesAt) g)
-    → readEnd s p bs ≡ refuse 17 (declaredAt (s .decls) l)
-end-lost s p bs l i n h =
+pub end-lost : (s : Book) (p : ℕ) (bs : List ℕ) (l : ℕ) → LowestLost s l → readEnd s p bs ≡ refuse 17 (declaredAt (s .decls) l)
+end-lost s p bs l ((i, n), h) =
     ap (λ (r : Result (Unit {0})). ifGood r (λ u. choose (eqb (length bs) 0) (λ u. good s) (λ u. refuse 11 p)))
     (lost-refuses (s .decls) (s .rulesAt) 0 (s .decls .arities) l (omega arith) (omega (arith, i)) n (λ g u v. h g v))
 
 -- where some function has no rule, there is a lowest
-pub lowest-lost : (s : Book) (f : ℕ) → f < length (s .decls .arities) → (HasRule (s .rulesAt) f → ⊥)
-    → (l : ℕ) × (l < length (s .decls .arities)) × (HasRule (s .rulesAt) l → ⊥) × ((g : ℕ) → g < l → HasRule (s .rulesAt) g)
-lowest-lost s f h n = go (refuseLost (s .decls) (s .rulesAt) 0 (s .decls .arities)) (searched s)
+pub lowest-lost : (s : Book) (f : ℕ) → Lost s f → (l : ℕ) × LowestLost s l
+lowest-lost s f (h, n) = go (refuseLost (s .decls) (s .rulesAt) 0 (s .decls .arities)) (searched s)
   where
-    go : (r : Result (Unit {0})) → Tells (s .decls) (s .rulesAt) 0 (s .decls .arities) r
-        → (l : ℕ) × (l < length (s .decls .arities)) × (HasRule (s .rulesAt) l → ⊥) × ((g : ℕ) → g < l → HasRule (s .rulesAt) g)
-    go (refused r) t = let b = t .below in (t .lost, omega (arith, b), t .no-rule, λ g l. t .lower g (omega arith) l)
+    go : (r : Result (Unit {0})) → Tells (s .decls) (s .rulesAt) 0 (s .decls .arities) r → (l : ℕ) × LowestLost s l
+    go (refused r) t = (t .lost, lowest-of s r t)
     go (good u) t = absurd (n (t f (omega arith) (omega (arith, h))))

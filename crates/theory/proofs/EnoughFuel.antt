@@ -9,7 +9,7 @@ use lib.ListN.{length, length-append}
 use Rattle.theory.specs.Syntax.{choose}
 use Rattle.theory.specs.Bytes.{recordParts, recordWords, nthTerm, termsFrom, NextRecord, noneLeft, cutShort, nextIs, nextRecord, Result, refused, good, ifGood, Declared, nthArity, termRecord, Where, onLeft, onRight, allowed, ceiling, Side, addRecord, readTermRecord, readSide, RuleAt, patsOf, varsOf, Book, ruleCount, orRefuse, readRule, readTopRecord, readRecords}
 use Rattle.theory.specs.Encoding.{encode, encodePats}
-use Rattle.theory.proofs.SidesGive.{Ok}
+use Rattle.theory.proofs.SidesGive.{Ok, any}
 use Rattle.theory.proofs.SidesRead.{Spelt, IsNext, next-is, next-long, LeftReads, RightReads, left-reads, right-reads}
 use Rattle.theory.proofs.ProgramRead.{withExn, withFun, withRule}
 
@@ -17,10 +17,6 @@ use Rattle.theory.proofs.ProgramRead.{withExn, withFun, withRule}
 also-same : {A B : Type 0} (Q : A → Type 0) (r : Result A) (f g : A → Result B) → Ok Q r → ((a : A) → Q a → f a ≡ g a) → ifGood r f ≡ ifGood r g
 also-same Q (refused x) f g h e = refl
 also-same Q (good a) f g h e = e a h
-
-any : {A : Type 0} (r : Result A) → Ok (λ x. Unit {0}) r
-any (refused x) = tt
-any (good a) = tt
 
 choose-same : {A : Type 0} (b : Bool) (f g h k : Unit {0} → Result A) → f tt ≡ g tt → h tt ≡ k tt → choose b f h ≡ choose b g k
 choose-same true f g h k e i = e

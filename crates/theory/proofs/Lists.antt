@@ -62,14 +62,6 @@ pub each-snoc : {A : Type 0} (P : A → Type 0) (xs : List A) (x : A) → Each P
 each-snoc P [] x h k = (k, tt)
 each-snoc P (y ∷ xs) x h k = (h .0, each-snoc P xs x (h .1) k)
 
-pub each-before : {A : Type 0} (P : A → Type 0) (xs : List A) (x : A) → Each P (addLast xs x) → Each P xs
-each-before P [] x h = tt
-each-before P (y ∷ xs) x h = (h .0, each-before P xs x (h .1))
-
-pub each-last : {A : Type 0} (P : A → Type 0) (xs : List A) (x : A) → Each P (addLast xs x) → P x
-each-last P [] x h = h .0
-each-last P (y ∷ xs) x h = each-last P xs x (h .1)
-
 pub each-both : {A : Type 0} (P Q R : A → Type 0) (xs : List A) → ((x : A) → P x → Q x → R x) → Each P xs → Each Q xs → Each R xs
 each-both P Q R [] f h k = tt
 each-both P Q R (x ∷ xs) f h k = (f x (h .0) (k .0), each-both P Q R xs f (h .1) (k .1))
@@ -77,3 +69,11 @@ each-both P Q R (x ∷ xs) f h k = (f x (h .0) (k .0), each-both P Q R xs f (h .
 pub each-map : {A : Type 0} (P Q : A → Type 0) (xs : List A) → ((x : A) → P x → Q x) → Each P xs → Each Q xs
 each-map P Q [] f h = tt
 each-map P Q (x ∷ xs) f h = (f x (h .0), each-map P Q xs f (h .1))
+
+pub each-first : {A : Type 0} (P : A → Type 0) (xs ys : List A) → Each P (xs ++ ys) → Each P xs
+each-first P [] ys h = tt
+each-first P (x ∷ xs) ys h = (h .0, each-first P xs ys (h .1))
+
+pub each-later : {A : Type 0} (P : A → Type 0) (xs ys : List A) → Each P (xs ++ ys) → Each P ys
+each-later P [] ys h = h
+each-later P (x ∷ xs) ys h = each-later P xs ys (h .1)

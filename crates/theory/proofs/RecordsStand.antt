@@ -45,7 +45,7 @@ declared-at s z f h =
 pub lost-place-is-declaration : (p : List ℕ) (q : ℕ) (h : LostAt p q)
     → (rest : List ℕ) × (drop q p ≡ 0x02 ∷ h .function ∷ nthArity (h .through .read .decls .arities) (h .function) ∷ rest)
 lost-place-is-declaration p q h =
-    let r = declared-at (h .through .read) (h .through .behind) (h .function) (h .lost .0) in
+    let r = declared-at (h .through .read) (h .through .behind) (h .function) (h .lowest .0 .0) in
     (r .0, ap₂ (λ (i : ℕ) (l : List ℕ). drop i l) (h .place) (h .through .is-read) ∙ r .1)
 
 pub lost-place-within : (p : List ℕ) (q : ℕ) → LostAt p q → q < length p

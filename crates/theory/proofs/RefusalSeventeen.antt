@@ -33,7 +33,7 @@ unfolding readProgram
 lost-refused p q h =
     ap (λ (b : Bool). choose b (λ u. ifGood (readRecords (suc (length p)) emptyBook 0 p) (λ s. ifGood (refuseOverlaps [] (s .rulesAt)) (λ u. good s))) (λ u. refuse 1 0)) (leb-true (length p) 8192 (through .bytes))
     ∙ ap (λ (r : Result Book). ifGood r (λ s. ifGood (refuseOverlaps [] (s .rulesAt)) (λ u. good s)))
-    (ap (λ (l : List ℕ). readRecords (suc (length l)) emptyBook 0 l) (through .is-read) ∙ back .1 ∙ end-lost (through .read) (back .0) (through .behind) (h .function) (h .lost .0) (h .lost .1) (h .lowest))
+    (ap (λ (l : List ℕ). readRecords (suc (length l)) emptyBook 0 l) (through .is-read) ∙ back .1 ∙ end-lost (through .read) (back .0) (through .behind) (h .function) (h .lowest))
     ∙ ap (refuse 17) (sym (h .place))
   where
     through : ReadsThrough p
@@ -50,12 +50,12 @@ lost-refused-exactly p q = (refused-lost p q, lost-refused p q)
 
 -- and without it: the program would otherwise read through its end record, and some declared function has no rule
 pub lost-refused-where : (p : List ℕ) → ((q : ℕ) × (readProgram p ≡ refuse 17 q)) ↔ ((t : ReadsThrough p) × (f : ℕ) × Lost (t .read) f)
-lost-refused-where p = (λ x. (let h = refused-lost p (x .0) (x .1) in (h .through, h .function, h .lost)), back)
+lost-refused-where p = (λ x. (let h = refused-lost p (x .0) (x .1) in (h .through, h .function, h .lowest .0)), back)
   where
     back : (t : ReadsThrough p) × (f : ℕ) × Lost (t .read) f → (q : ℕ) × (readProgram p ≡ refuse 17 q)
     back (t, f, h) =
-        let l = lowest-lost (t .read) f (h .0) (h .1) in
-        (declaredAt (t .read .decls) (l .0), lost-refused p _ (record { through = t; function = l .0; lost = (l .1, l .2); lowest = l .3; place = refl }))
+        let l = lowest-lost (t .read) f h in
+        (declaredAt (t .read .decls) (l .0), lost-refused p _ (record { through = t; function = l .0; lowest = l .1; place = refl }))
 
 -- AN ACCEPTED PROGRAM'S FUNCTION ALWAYS HAS A RULE
 owned : (f : ℕ) (rs : List RuleAt) → HasRule rs f → (d : Def) × (ds : List Def) × (defsOf f rs ≡ d ∷ ds)

@@ -59,9 +59,8 @@ by-end-record p x l h = go (subst (EndSays (h .book) (h .at) (h .behind)) (sym (
         lost (k .number)
         (record {
           through = record { bytes = l; read = h .book; readable = h .grown .1; behind = h .behind; is-read = h .grown .0 };
-          function = k .lost;
-          lost = (let b = k .below in omega (arith, b), k .no-rule);
-          lowest = λ f m. k .lower f (omega arith) m;
+          function = k .function;
+          lowest = k .lowest;
           place = k .place;
         })
 

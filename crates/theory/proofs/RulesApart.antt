@@ -4,7 +4,7 @@ use mathlib.Core.Path.{_≡_, refl, sym, ap, _∙_}
 use mathlib.Core.Bool.{Bool, true, false, _&&_, _||_}
 use mathlib.Core.List.{List, [], _∷_}
 use lib.Dec.{eqb}
-use Rattle.theory.proofs.Lists.{each-snoc, each-before, each-last, each-both, each-map}
+use Rattle.theory.proofs.Lists.{each-snoc, each-first, each-later, each-both, each-map}
 use Rattle.theory.specs.Syntax.{choose}
 use Rattle.theory.specs.Overlap.{overlaps}
 use Rattle.theory.specs.Bytes.{good, refuse, RuleAt, addLast, overlapsEarlier, refuseOverlaps}
@@ -52,8 +52,8 @@ overlap-reads before (r ∷ rs) = go (overlapsEarlier r before) refl (overlap-re
     go false e h =
         ok-map (λ u. Clear (addLast before r) rs) (λ u. Clear before (r ∷ rs)) (refuseOverlaps (addLast before r) rs)
         (λ u c. (
-          each-both (λ q. NotOverlapping q r) (λ q. Each (NotOverlapping q) rs) (λ q. Each (NotOverlapping q) (r ∷ rs)) before (λ q x y. (x, y)) (apart-of r before e) (each-before (λ q. Each (NotOverlapping q) rs) before r (c .0)),
-          (each-last (λ q. Each (NotOverlapping q) rs) before r (c .0), c .1),
+          each-both (λ q. NotOverlapping q r) (λ q. Each (NotOverlapping q) rs) (λ q. Each (NotOverlapping q) (r ∷ rs)) before (λ q x y. (x, y)) (apart-of r before e) (each-first (λ q. Each (NotOverlapping q) rs) before (r ∷ []) (c .0)),
+          (each-later (λ q. Each (NotOverlapping q) rs) before (r ∷ []) (c .0) .0, c .1),
         )) h
 
 pub clear-now : (before : List RuleAt) (r : RuleAt) (rs : List RuleAt) → Clear before (r ∷ rs) → overlapsEarlier r before ≡ false

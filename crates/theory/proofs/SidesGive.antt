@@ -16,6 +16,10 @@ abbrev pub Ok : {A : Type 0} → (A → Type 0) → Result A → Type 0
 Ok Q (refused r) = Unit {0}
 Ok Q (good a) = Q a
 
+pub any : {A : Type 0} (r : Result A) → Ok (λ x. Unit {0}) r
+any (refused x) = tt
+any (good a) = tt
+
 pub choose-ok : {A : Type 0} (Q : A → Type 0) (b : Bool) (x y : Unit {0} → Result A) → (T b → Ok Q (x tt)) → Ok Q (y tt) → Ok Q (choose b x y)
 choose-ok Q true x y h k = h tt
 choose-ok Q false x y h k = k
@@ -81,10 +85,6 @@ module _ (D : Declared) where
       (λ w′ u. choose-ok (SideOk (suc due)) (leb (count + recordWords t) (ceiling w)) _ _
       (λ l. also-ok (SideOk (recordParts t + due)) (SideOk (suc due)) (go w′ (recordParts t + due) (count + recordWords t) (p + n) bs) (addRecord t)
       (h w′ (recordParts t + due) (count + recordWords t) (p + n) bs) (λ s hs. (hs .0, (ht, hs .1)))) tt))
-    where
-      any : {A : Type 0} (r : Result A) → Ok (λ x. Unit {0}) r
-      any (refused x) = tt
-      any (good a) = tt
 
   pub side-ok : (fuel : ℕ) (w : Where) (due count p : ℕ) (bs : List ℕ) → Ok (SideOk due) (readSide D fuel w due count p bs)
   side-ok zero w zero count p bs = (tt, tt)

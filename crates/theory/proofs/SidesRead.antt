@@ -13,6 +13,7 @@ use Rattle.theory.specs.Proper.{Distinct, AllIn, patVars, patsVars, term
 use Rattle.theory.specs.Bytes.{TermRecord, constantRecord, succRecord, ifRecord, variableRecord, raiseRecord, handleRecord, callRecord, recordParts, recordWords, nthTerm, termsFrom, NextRecord, noneLeft, cutShort, nextIs, bodyLength, withBody, nextRecord, Result, refused, good, refuse, ifGood, Declared, nthArity, orRefuse4, termRecord, Where, onLeft, onRight, inQuestion, allowed, ceiling, Side, addRecord, readTermRecord, readSide, patsOf, varsOf}
 use Rattle.theory.specs.Encoding.{callBytes, encode, encodes, encodePats, termWords, termsWords, patsWords, OverDeclared, AllOverDeclared, Each}
 use Rattle.theory.proofs.Tests.{leb-true, leb-false, ne-of-eqb, eqb-false}
+use Rattle.theory.proofs.Lists.{each-first, each-later}
 use Rattle.theory.proofs.RecordRead.{RecordRead, record-read}
 use Rattle.theory.proofs.SidesGive.{Ok, choose-ok, also-ok, TokOk, AllTok, Balanced, SideOk, side-ok, build-many, build-ok}
 use Rattle.theory.proofs.RecordsOfTerms.{bytesTok, bytesToks, wordsToks, varsToks, flats, flats-bytes, flats-words, flats-vars, flats-ok, flats-due, flats-build, build-flats, termOf, termsOf, pats-many, pats-bytes, pats-words, pats-vars, AllLeft, left-pats, pats-left}
@@ -548,14 +549,6 @@ module _ (D : Declared) where
   each-append [] ys h k = k
   each-append (x ∷ xs) ys h k = (h .0, each-append xs ys (h .1) k)
 
-  each-first : (xs ys : List ℕ) → Each (λ x. x ≤ 7) (xs ++ ys) → Each (λ x. x ≤ 7) xs
-  each-first [] ys h = tt
-  each-first (x ∷ xs) ys h = (h .0, each-first xs ys (h .1))
-
-  each-later : (xs ys : List ℕ) → Each (λ x. x ≤ 7) (xs ++ ys) → Each (λ x. x ≤ 7) ys
-  each-later [] ys h = h
-  each-later (x ∷ xs) ys h = each-later xs ys (h .1)
-
   pat-low : (p : Pat) → OverDeclared D (termOf p) → Each (λ x. x ≤ 7) (patVars p)
   pat-low (pbase b) h = tt
   pat-low (psucc p) h = pat-low p h
@@ -572,7 +565,7 @@ module _ (D : Declared) where
 
   pub low-pats : (ps : List Pat) → Each (λ x. x ≤ 7) (patsVars ps) → AllOverDeclared D (termsOf ps)
   low-pats [] h = tt
-  low-pats (p ∷ ps) h = (low-pat p (each-first (patVars p) (patsVars ps) h), low-pats ps (each-later (patVars p) (patsVars ps) h))
+  low-pats (p ∷ ps) h = (low-pat p (each-first (λ x. x ≤ 7) (patVars p) (patsVars ps) h), low-pats ps (each-later (λ x. x ≤ 7) (patVars p) (patsVars ps) h))
 
 -- ONE TERM, on a right side or in a question
 alone : (ts : Terms) → many ts ≡ 1 → ts ≡ tcons (nthTerm ts 0) tnil

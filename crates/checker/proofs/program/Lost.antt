@@ -1,7 +1,7 @@
 -- The laws of refusal 17: which functions have a rule, as booleans, and that the first that is false is the theory's lowest.
 use Prim.Native.Nat.{ℕ, zero, suc, _+_, _≤_, _<_}
 use mathlib.Core.Path.{_≡_, refl, sym, ap, ap₂, _∙_}
-use mathlib.Core.Bool.{Bool, true, false, not, _||_}
+use mathlib.Core.Bool.{Bool, true, false, _||_}
 use mathlib.Core.List.{List, [], _∷_}
 use native.Mathlib.Numerals.{add-one}
 use native.Mathlib.Omega.{arith}
@@ -107,12 +107,3 @@ module _ (bs : List Bool) (f : ℕ) where
   pub lost-later : f < length bs → getD bs f false ≡ true → f + lostFrom (drop f bs) ≡ f + 1 + lostFrom (drop (f + 1) bs)
   unfolding lostFrom
   lost-later h e = rw (next h, e) (omega arith)
-
--- the code asks whether there is none
-pub not-yes : (b : Bool) → not b ≡ true → b ≡ false
-not-yes true e = sym e
-not-yes false e = refl
-
-pub not-no : (b : Bool) → not b ≡ false → b ≡ true
-not-no true e = refl
-not-no false e = sym e
