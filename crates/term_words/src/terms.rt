@@ -8,7 +8,8 @@ ghost use lib.Dec.{eqb};
 ghost use lib.ListN.{length};
 ghost use Rattle.generated.specs.Wrote.{Room, Wrote};
 ghost use Rattle.term_words.specs.Records.{Whole, countOf, from, termsAt, termAt, Passed};
-ghost use Rattle.term_words.specs.Roots.{rootWords, handled};
+ghost use Rattle.term_words.specs.Roots.{rootWords};
+ghost use Rattle.term_words.specs.Late.{mostOwed, lateWords, kept, Clear};
 ghost use Rattle.theory.specs.Syntax.{pick};
 ghost use Rattle.theory.specs.Words.{words, allWords};
 ghost use Rattle.theory.specs.Translation.{tree, trees};
@@ -33,44 +34,61 @@ pub struct Ends {
     pub to: usize,
 }
 
-// The words of the term that stands at the place p, written from the place `at` on.
-pub fn term_words(arities: &[u8], bytes: &[u8], p: usize, dst: &mut [u16], at: usize) -> Ends
-    requires { ⌜ Whole (from (now arities) (now bytes) p) 1 ⌝ }
-    requires { ⌜ Room (words (tree (termAt (now arities) (now bytes) p))) at (now dst) ⌝ }
-    ensures { λ r. ⌜ Passed (now (arities .entry)) (now (bytes .entry)) p 1 (r .from) ⌝ }
-    ensures { λ r. ⌜ Wrote (words (tree (termAt (now (arities .entry)) (now (bytes .entry)) p))) at (now (dst .entry)) (now (dst .exit)) (r .to) ⌝ }
+// The exception of a handle stands behind its guarded part: it is kept for the number of terms that are owed once that is passed.
+fn keep(late: &mut [u16], owed: usize, word: u16, exception: u16)
+    requires { ⌜ owed < length (now late) ⌝ }
+    ensures { λ _. ⌜ now (late .exit) ≡ kept (now (late .entry)) owed word exception ⌝ }
 {
-    let root = root_at(arities, bytes, p);
-    let next = root.next;
-    let to = put_root(dst, at, root.word, root.exception);
-    if root.word == 12 {
-        return handle_words(arities, bytes, next, root.exception, dst, to);
+    if word == 12 {
+        late[owed] = exception;
     }
-    terms_words(arities, bytes, next, root.parts, dst, to)
 }
 
-// What stands behind the root of handle: the guarded part, the exception, the handler.
-fn handle_words(
+// What was kept, where something was.
+fn put_late(dst: &mut [u16], at: usize, exception: u16) -> usize
+    requires { ⌜ Room (lateWords exception) at (now dst) ⌝ }
+    ensures { λ r. ⌜ Wrote (lateWords exception) at (now (dst .entry)) (now (dst .exit)) r ⌝ }
+{
+    if exception == 0 {
+        return at;
+    }
+    let one = [exception];
+    put_words(dst, at, &one)
+}
+
+// The words of n terms, one after the other: record by record, with the number of terms still owed. What is kept is written when as
+// many are owed again.
+fn put_terms(
     arities: &[u8],
     bytes: &[u8],
     p: usize,
-    exception: u16,
+    n: u8,
     dst: &mut [u16],
     at: usize,
+    late: &mut [u16],
 ) -> Ends
-    requires { ⌜ Whole (from (now arities) (now bytes) p) 2 ⌝ }
-    requires { ⌜ Room (handled (termsAt (now arities) (now bytes) p) exception) at (now dst) ⌝ }
-    ensures { λ r. ⌜ Passed (now (arities .entry)) (now (bytes .entry)) p 2 (r .from) ⌝ }
-    ensures { λ r. ⌜ Wrote (handled (termsAt (now (arities .entry)) (now (bytes .entry)) p) exception) at (now (dst .entry)) (now (dst .exit)) (r .to) ⌝ }
+    requires { ⌜ (p ≤ length (now bytes)) × Whole (from (now arities) (now bytes) p) n ⌝ }
+    requires { ⌜ Room (allWords (trees (firstTerms n (termsAt (now arities) (now bytes) p)))) at (now dst) ⌝ }
+    requires { ⌜ (countOf (from (now arities) (now bytes) p) n < length (now late)) × Clear (now late) 0 ⌝ }
+    ensures { λ r. ⌜ Passed (now (arities .entry)) (now (bytes .entry)) p n (r .from) ⌝ }
+    ensures { λ r. ⌜ Wrote (allWords (trees (firstTerms n (termsAt (now (arities .entry)) (now (bytes .entry)) p)))) at (now (dst .entry)) (now (dst .exit)) (r .to) ⌝ }
 {
-    let guarded = term_words(arities, bytes, p, dst, at);
-    let next = guarded.from;
-    let one = [exception];
-    let to = put_words(dst, guarded.to, &one);
-    term_words(arities, bytes, next, dst, to)
+    let mut owed = n as usize;
+    let mut next = p;
+    let mut to = at;
+    while 0 < owed {
+        let root = root_at(arities, bytes, next);
+        let behind = put_root(dst, to, root.word, root.exception);
+        keep(late, owed, root.word, root.exception);
+        owed = owed - 1 + root.parts as usize;
+        next = root.next;
+        to = put_late(dst, behind, late[owed]);
+        late[owed] = 0;
+    }
+    Ends { from: next, to }
 }
 
-// The words of n terms, one after the other.
+// The same.
 pub fn terms_words(
     arities: &[u8],
     bytes: &[u8],
@@ -80,16 +98,24 @@ pub fn terms_words(
     at: usize,
 ) -> Ends
     requires { ⌜ (p ≤ length (now bytes)) × Whole (from (now arities) (now bytes) p) n ⌝ }
+    requires { ⌜ countOf (from (now arities) (now bytes) p) n ≤ mostOwed ⌝ }
     requires { ⌜ Room (allWords (trees (firstTerms n (termsAt (now arities) (now bytes) p)))) at (now dst) ⌝ }
     ensures { λ r. ⌜ Passed (now (arities .entry)) (now (bytes .entry)) p n (r .from) ⌝ }
     ensures { λ r. ⌜ Wrote (allWords (trees (firstTerms n (termsAt (now (arities .entry)) (now (bytes .entry)) p)))) at (now (dst .entry)) (now (dst .exit)) (r .to) ⌝ }
 {
-    if n == 0 {
-        return Ends { from: p, to: at };
-    }
-    let first = term_words(arities, bytes, p, dst, at);
-    let next = first.from;
-    terms_words(arities, bytes, next, n - 1, dst, first.to)
+    let mut late = [0u16; 513];
+    put_terms(arities, bytes, p, n, dst, at, &mut late)
+}
+
+// The words of the term that stands at the place p, written from the place `at` on.
+pub fn term_words(arities: &[u8], bytes: &[u8], p: usize, dst: &mut [u16], at: usize) -> Ends
+    requires { ⌜ Whole (from (now arities) (now bytes) p) 1 ⌝ }
+    requires { ⌜ countOf (from (now arities) (now bytes) p) 1 ≤ mostOwed ⌝ }
+    requires { ⌜ Room (words (tree (termAt (now arities) (now bytes) p))) at (now dst) ⌝ }
+    ensures { λ r. ⌜ Passed (now (arities .entry)) (now (bytes .entry)) p 1 (r .from) ⌝ }
+    ensures { λ r. ⌜ Wrote (words (tree (termAt (now (arities .entry)) (now (bytes .entry)) p))) at (now (dst .entry)) (now (dst .exit)) (r .to) ⌝ }
+{
+    terms_words(arities, bytes, p, 1, dst, at)
 }
 
 // The words of a record, the exception's among them.

@@ -20,6 +20,7 @@ use Rattle.theory.proofs.AcceptedExactly.{accepted-exactly}
 use Rattle.theory.proofs.RecordsStand.{StandsAt, rules-stand}
 use Rattle.theory.proofs.Readability.{length-words}
 use Rattle.term_words.specs.Records.{Whole, spanOf, countOf, from, termsAt, termAt}
+use Rattle.term_words.specs.Late.{mostOwed}
 use Rattle.term_words.proofs.Standing.{Standing, terms-stand, StandingOne, term-stands, question-stands}
 use Rattle.translator.specs.Opened.{rightAt}
 use Rattle.translator.specs.Listed.{Here, Stand, arityOf, rulesOf, rulesIn, Listed, Small}
@@ -75,7 +76,7 @@ module _ (D : Declared) (arities : List ℕ) (h : Agrees D arities) (bytes : Lis
       whole : Whole (from arities bytes (p + 2)) (arityOf arities r)
       whole = subst (Whole (from arities bytes (p + 2))) arity (left-stands .whole)
 
-      small-left : countOf (from arities bytes (p + 2)) (arityOf arities r) < 1000
+      small-left : countOf (from arities bytes (p + 2)) (arityOf arities r) ≤ mostOwed
       small-left =
           let c = ap (countOf (from arities bytes (p + 2))) (sym arity) ∙ left-stands .count ∙ pats-words ps in
           let m = v .left-words in
@@ -90,7 +91,7 @@ module _ (D : Declared) (arities : List ℕ) (h : Agrees D arities) (bytes : Lis
       right-stands : StandingOne arities (drop (rightAt arities bytes p (arityOf arities r)) bytes) (r .sides .right)
       right-stands = term-stands D arities h (r .sides .right) (v .right-over) (drop (rightAt arities bytes p (arityOf arities r)) bytes) rest behind
 
-      small-right : countOf (from arities bytes (rightAt arities bytes p (arityOf arities r))) 1 < 1000
+      small-right : countOf (from arities bytes (rightAt arities bytes p (arityOf arities r))) 1 ≤ mostOwed
       small-right = let c = right-stands .count in let m = v .right-words in omega (arith, c, m)
 
   -- ALL RULES, at their openings

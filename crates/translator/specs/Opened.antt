@@ -1,6 +1,6 @@
 -- A rule's records as they stand in a program: its opening and its function at p, then the left arguments, then the right side.
 use mathlib.Core.Path.{_≡_}
-use Prim.Native.Nat.{ℕ, suc, _+_, _≤_, _<_}
+use Prim.Native.Nat.{ℕ, suc, _+_, _≤_}
 use mathlib.Core.List.{List, []}
 use lib.Dec.{eqb}
 use lib.ListN.{length, getD}
@@ -10,6 +10,7 @@ use Rattle.theory.specs.Words.{storedRule}
 use Rattle.theory.specs.Translation.{aux, tree, trees, _⇒_}
 use Rattle.theory.specs.Bytes.{firstTerms}
 use Rattle.term_words.specs.Records.{Whole, spanOf, countOf, from, termsAt, termAt}
+use Rattle.term_words.specs.Late.{mostOwed}
 
 -- where the right side begins, if the function has n arguments
 abbrev pub rightAt : List ℕ → List ℕ → ℕ → ℕ → ℕ
@@ -25,8 +26,8 @@ pub record Opened (arities program : List ℕ) (p n : ℕ) : Type 0 where
   pub inside : p + 2 ≤ length program
   pub left : Whole (from arities program (p + 2)) n
   pub right : Whole (from arities program (rightAt arities program p n)) 1
-  pub small-left : countOf (from arities program (p + 2)) n < 1000
-  pub small-right : countOf (from arities program (rightAt arities program p n)) 1 < 1000
+  pub small-left : countOf (from arities program (p + 2)) n ≤ mostOwed
+  pub small-right : countOf (from arities program (rightAt arities program p n)) 1 ≤ mostOwed
 
 -- the same of the rule at p, if it is one of function f
 pub record OpenedFor (arities program : List ℕ) (p f n : ℕ) : Type 0 where

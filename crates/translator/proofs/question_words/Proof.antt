@@ -18,7 +18,7 @@ term-words-requires c κs =
     let q = at .pre .0 in
     let s = question-stands (q .declared) (a .arities .now) (a .question .now) (q .term) (q .agrees) (q .read) in
     let fits = at .pre .1 (q .declared) (q .term) (q .agrees) (q .read) in
-    (s .0, (let e = ap (λ (t : Term). length (words (tree t))) (s .1) in omega (arith, fits, e)))
+    (s .0, (s .2, (let e = ap (λ (t : Term). length (words (tree t))) (s .1) in omega (arith, fits, e))))
 
 same-length : tie.Need-same-length
 same-length c = search needs

@@ -1,12 +1,13 @@
 -- `rules::put_rule` meets its contract: the counts and the auxiliary, the left arguments, the right side.
 use mathlib.Core.Path.{_≡_, sym, ap, _∙_, subst}
 use mathlib.Core.List.{[], _∷_, _++_}
-use Prim.Native.Nat.{ℕ, _+_}
+use Prim.Native.Nat.{ℕ, _+_, _≤_}
 use Rattle.theory.specs.Words.{words}
 use Rattle.theory.specs.Translation.{aux, tree}
 use Rattle.generated.specs.Wrote.{Room, Wrote}
 use Rattle.generated.proofs.Writes.{wrote-as, wrote-then, room-as, room-first, room-then}
 use Rattle.term_words.specs.Records.{Whole, countOf, from, termAt}
+use Rattle.term_words.specs.Late.{mostOwed}
 use Rattle.translator.specs.declared.rules.Sizes.{Sizes}
 use Rattle.translator.specs.Opened.{rightAt}
 use Rattle.translator.proofs.Laws.{headWords, leftWords, rightWords, rule-words}
@@ -65,7 +66,10 @@ terms-words-requires c κs =
     let at = f .before .before .before .before .before .before .before .before in
     let a = at .args in (
       (at .pre .1 .0 .0 .inside, at .pre .1 .0 .0 .left),
-      room-first (leftWords (a .arities .now) (a .program .now) (a .p) (a .n)) (rightWords (a .arities .now) (a .program .now) (a .p) (a .n)) (f .put-words .result) (f .put-words .last .0) (sides f),
+      (
+        at .pre .1 .0 .0 .small-left,
+        room-first (leftWords (a .arities .now) (a .program .now) (a .p) (a .n)) (rightWords (a .arities .now) (a .program .now) (a .p) (a .n)) (f .put-words .result) (f .put-words .last .0) (sides f),
+      ),
     )
 
 term-words-requires : tie.Need-term-words-requires
@@ -73,11 +77,16 @@ term-words-requires c κs =
     let l = c .before .before .before in
     let f = l .before .before .before .before in
     let at = f .before .before .before .before .before .before .before .before in
-    let a = at .args in (
-      subst (λ (x : Sizes). Whole (from (a .arities .now) (a .program .now) (x .middle)) 1) (sym (at .pre .1 .0 .1)) (at .pre .1 .0 .0 .right),
-      room-as (l .terms-words .result .to) (l .terms-words .last .1 .1 .1 .1 .0) (right at)
-          (room-then (leftWords (a .arities .now) (a .program .now) (a .p) (a .n)) (rightWords (a .arities .now) (a .program .now) (a .p) (a .n)) (f .put-words .result) (l .terms-words .result .to) (f .put-words .last .0) (l .terms-words .last .1 .1 .1 .1 .0)
-          (l .terms-words .ensures .1) (sides f)),
+    let a = at .args in
+    let o = at .pre .1 .0 .0 in
+    let right-is = sym (at .pre .1 .0 .1) in (
+      subst (λ (x : Sizes). Whole (from (a .arities .now) (a .program .now) (x .middle)) 1) right-is (o .right),
+      (
+        subst (λ (x : Sizes). countOf (from (a .arities .now) (a .program .now) (x .middle)) 1 ≤ mostOwed) right-is (o .small-right),
+        room-as (l .terms-words .result .to) (l .terms-words .last .1 .1 .1 .1 .0) (right at)
+            (room-then (leftWords (a .arities .now) (a .program .now) (a .p) (a .n)) (rightWords (a .arities .now) (a .program .now) (a .p) (a .n)) (f .put-words .result) (l .terms-words .result .to) (f .put-words .last .0) (l .terms-words .last .1 .1 .1 .1 .0)
+            (l .terms-words .ensures .1) (sides f)),
+      ),
     )
 
 same-length : tie.Need-same-length

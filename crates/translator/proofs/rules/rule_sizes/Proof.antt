@@ -1,8 +1,9 @@
 -- `rules::rule_sizes` meets its contract.
 use mathlib.Core.Path.{_≡_, sym, ap, ap₂, _∙_, subst}
-use Prim.Native.Nat.{ℕ, _+_, _<_}
+use Prim.Native.Nat.{ℕ, _+_, _≤_}
 use native.Mathlib.Omega.{arith}
 use Rattle.term_words.specs.Records.{Whole, countOf, from}
+use Rattle.term_words.specs.Late.{mostOwed}
 use Rattle.translator.specs.declared.rules.Sizes.{Sizes}
 use Rattle.translator.specs.Opened.{rightAt}
 use borrow.Author.Needs.{needs}
@@ -26,7 +27,7 @@ size-of-requires-2 : tie.Need-size-of-requires-2
 size-of-requires-2 c κs =
     let at = c .before .before .before in
     let a = at .args in
-    let small = subst (λ (q : ℕ). countOf (from (a .arities .now) (a .program .now) q) 1 < 1000) (sym (middle c)) (at .pre .small-right) in
+    let small = subst (λ (q : ℕ). countOf (from (a .arities .now) (a .program .now) q) 1 ≤ mostOwed) (sym (middle c)) (at .pre .small-right) in
     ((c .size-of .ensures .0 .inside, subst (λ (q : ℕ). Whole (from (a .arities .now) (a .program .now) q) 1) (sym (middle c)) (at .pre .right)), omega (arith, small))
 
 word-of-size-requires : tie.Need-word-of-size-requires
@@ -40,7 +41,7 @@ word-of-size-requires-2 c κs =
     let m = c .before .before in
     let at = m .before .before .before in
     let a = at .args in
-    let small = subst (λ (q : ℕ). countOf (from (a .arities .now) (a .program .now) q) 1 < 1000) (sym (middle m)) (at .pre .small-right) in
+    let small = subst (λ (q : ℕ). countOf (from (a .arities .now) (a .program .now) q) 1 ≤ mostOwed) (sym (middle m)) (at .pre .small-right) in
     omega (arith, small, c .before .size-of2 .ensures .1)
 
 returns : tie.Need-returns
