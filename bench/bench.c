@@ -4,12 +4,11 @@
  * `bench evaluator` and `bench rewriter` time one engine alone; `bench copy` a plain copy of as many words as the row's name ends in. */
 #define _GNU_SOURCE
 #include "../hosts/cases.h"
+#include "../hosts/painted.h"
 #include "puffinest.h"
 
-#include <pthread.h>
 #include <stdlib.h>
 #include <string.h>
-#include <sys/mman.h>
 #include <time.h>
 
 enum { ROWS = 10100, NAME = 32 };
@@ -69,9 +68,7 @@ static double seconds(Engine *engine) {
     }
 }
 
-/* The engine runs on a stack of its own, painted before; the lowest place that lost its paint says how much was used. */
-enum { STACK = 16 << 20, PAINT = 0xA5 };
-
+/* A pass that runs on a painted stack. */
 typedef struct {
     Engine *engine;
     uint64_t steps;
@@ -80,38 +77,14 @@ typedef struct {
 
 static void *run_pass(void *run) {
     Run *r = run;
-    if (r->engine != NULL)
-        r->steps = pass(r->engine, &r->ending);
+    r->steps = pass(r->engine, &r->ending);
     return NULL;
-}
-
-static size_t painted_run(Run *run) {
-    uint8_t *stack = mmap(NULL, STACK, PROT_READ | PROT_WRITE, MAP_PRIVATE | MAP_ANONYMOUS, -1, 0);
-    pthread_attr_t attr;
-    pthread_t thread;
-    if (stack == MAP_FAILED || pthread_attr_init(&attr) != 0 || pthread_attr_setstack(&attr, stack, STACK) != 0)
-        exit(2);
-    memset(stack, PAINT, STACK);
-    if (pthread_create(&thread, &attr, run_pass, run) != 0 || pthread_join(thread, NULL) != 0)
-        exit(2);
-    size_t low = 0;
-    while (low < STACK && stack[low] == PAINT)
-        low++;
-    munmap(stack, STACK);
-    return STACK - low;
-}
-
-/* The stack of a pass, without what the thread itself takes. */
-static size_t stack_of(Run *run) {
-    Run nothing = {NULL, 0, 0};
-    size_t empty = painted_run(&nothing);
-    return painted_run(run) - empty;
 }
 
 static void time_row(const char *which, Engine *engine) {
     static const char *const endings[] = {"refused", "value", "exception", "stuck", "out", "deep", "big"};
     Run run = {engine, 0, 0};
-    size_t stack = stack_of(&run);
+    size_t stack = stack_of(run_pass, &run);
     printf("%s %s %s %llu %.9f %zu\n", name, which, endings[run.ending % 7], (unsigned long long)run.steps, seconds(engine), stack);
     fflush(stdout);
 }

@@ -1,13 +1,10 @@
-/* The sentences of puffinest.h on the calls: NULL with length 0, a report that is too short, where the term begins, refusal 17, what the
- * own list's slice must hold, and the stack of a call. */
-#define _GNU_SOURCE
+/* The sentences of puffinest.h on the calls: NULL with length 0, a report that is too short, where the term begins, refusal 17, and what
+ * the own list's slice must hold. */
 #include "../cases.h"
 #include "puffinest.h"
 
-#include <pthread.h>
 #include <stdlib.h>
 #include <string.h>
-#include <sys/mman.h>
 
 static uint16_t own[OWN], first[ROOM], second[ROOM];
 static uint32_t report[REPORT];
@@ -93,7 +90,7 @@ static void lost_rules(void) {
 }
 
 /* The bytes of a program that is being written. */
-static uint8_t program[8192], question[1024];
+static uint8_t program[8192];
 static size_t length;
 
 static void put(unsigned count, uint8_t byte) {
@@ -127,109 +124,11 @@ static void largest_own_list(void) {
     expect(reports(13, 1, 0, 0, 0, 0, 0), "one word less is too short");
 }
 
-/* A call runs on a stack of its own, painted before; the lowest place that lost its paint says how much was used. The header says that
- * ENOUGH is enough. */
-enum { PAINTED = 16 << 20, ENOUGH = 8 << 20, PAINT = 0xA5 };
-
-static size_t question_length;
-
-static void *evaluate(void *unused) {
-    puffinest_evaluate(program, length, question, question_length, 1000000, 1000, report, REPORT);
-    return unused;
-}
-
-static void *rewrite(void *unused) {
-    puffinest_rewrite(program, length, question, question_length, 1000000, ROOM, own, OWN, first, ROOM, second, ROOM, report, REPORT);
-    return unused;
-}
-
-/* What the thread takes for itself. */
-static void *nothing_at_all(void *unused) { return unused; }
-
-static size_t painted(void *(*call)(void *)) {
-    uint8_t *stack = mmap(NULL, PAINTED, PROT_READ | PROT_WRITE, MAP_PRIVATE | MAP_ANONYMOUS, -1, 0);
-    pthread_attr_t attr;
-    pthread_t thread;
-    if (stack == MAP_FAILED || pthread_attr_init(&attr) != 0 || pthread_attr_setstack(&attr, stack, PAINTED) != 0)
-        exit(2);
-    memset(stack, PAINT, PAINTED);
-    if (pthread_create(&thread, &attr, call, NULL) != 0 || pthread_join(thread, NULL) != 0)
-        exit(2);
-    size_t low = 0;
-    while (low < PAINTED && stack[low] == PAINT)
-        low++;
-    munmap(stack, PAINTED);
-    return PAINTED - low;
-}
-
-/* The bytes of a text in hexadecimal digits; blanks between them. */
-static size_t bytes(const char *text, uint8_t *into) {
-    size_t n = 0;
-    for (; *text != 0; text++) {
-        if (*text == ' ')
-            continue;
-        into[n++] = (uint8_t)(digit(text[0]) * 16 + digit(text[1]));
-        text++;
-    }
-    return n;
-}
-
-static size_t repeat(size_t count, const char *text, uint8_t *into) {
-    size_t n = 0;
-    while (count-- > 0)
-        n += bytes(text, into + n);
-    return n;
-}
-
-static size_t most_evaluator, most_rewriter;
-
-/* The question to the book under both calls, and the endings that they come to. */
-static void measure(const char *what, uint32_t evaluated, uint32_t rewritten) {
-    size_t empty = painted(nothing_at_all);
-    size_t used = painted(evaluate) - empty;
-    most_evaluator = used > most_evaluator ? used : most_evaluator;
-    expect(report[NUMBER] == 0 && report[ENDING] == evaluated && used <= ENOUGH, what);
-    used = painted(rewrite) - empty;
-    most_rewriter = used > most_rewriter ? used : most_rewriter;
-    expect(report[NUMBER] == 0 && report[ENDING] == rewritten && used <= ENOUGH, what);
-}
-
-/* The forms that took the most of those that were tried. */
-static void stack(void) {
-    length = bytes("02 00 01 03 00 14 00 19 00 14 00 04", program);
-    question_length = bytes("19 00 10", question);
-    measure("g(x) -> g(x)", 5, 4);
-    /* f(x,y,z,w) -> 0, which is never come to: h -> f(0,0,0,f(0,0,0,...h)), and the question begins so too. */
-    length = bytes("02 00 04 02 01 00 03 00 14 00 14 01 14 02 14 03 10 03 01", program);
-    length += repeat(31, "19 00 10 10 10", program + length);
-    length += bytes("19 01 04", program + length);
-    question_length = repeat(127, "19 00 10 10 10", question);
-    question_length += bytes("19 01", question + question_length);
-    measure("calls in the fourth argument of calls", 5, 6);
-    /* not(not(...True)), as deep as a question can be. */
-    length = bytes("04", program);
-    question_length = repeat(511, "18 02", question);
-    question_length += bytes("12", question + question_length);
-    measure("a question of 511 times not", 1, 1);
-    /* h(0) -> 0, h(succ(x)) -> if(if(...h(x)...)), handle(h(34),A,0): a stuck term of 1,360 levels, which the rewriter copies. */
-    length = bytes("01 00 02 00 01 03 00 10 10 03 00 11 14 00", program);
-    length += repeat(40, "17", program + length);
-    length += bytes("19 00 14 00", program + length);
-    length += repeat(80, "10", program + length);
-    length += bytes("04", program + length);
-    question_length = bytes("16 00 19 00", question);
-    question_length += repeat(34, "11", question + question_length);
-    question_length += bytes("10 10", question + question_length);
-    measure("a stuck term of 1,360 levels", 5, 6);
-    printf("stack: evaluate %zu bytes, rewrite %zu bytes at the most\n", most_evaluator, most_rewriter);
-}
-
 int main(void) {
     null_with_length_0();
     slices();
     lost_rules();
     largest_own_list();
-    stack();
     puts("the header's sentences on the calls hold");
     return 0;
 }
