@@ -77,7 +77,7 @@ module _ (ks ss : List ℕ) where
   moved-fitted : (list : List ℕ) (s : Span) → s .from ≤ s .to → s .to ≤ length list → (p : Place) → firstFit ks (partIn list s) ss ≡ p → FittedIn (partIn list s) p → FittedIn list (moved (s .from) p)
   moved-fitted list s h k Nowhere e f = tt
   moved-fitted list s h k (Stored at n) e f =
-      let w = part-within ks list [] ss s h k e in
+      let w = part-within ks list ss s h k e in
       subst (λ (x : List ℕ). Fitted ks x ss)
       (part-of-front n at (s .to - s .from) (drop (s .from) list) (omega (arith, w, h)) ∙ ap (take n) (drop-drop at (s .from) list)) f
 

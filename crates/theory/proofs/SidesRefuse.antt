@@ -95,7 +95,7 @@ allowed-stands inQuestion p (handleRecord e) = alike inQuestion
 allowed-stands inQuestion p (callRecord k n) = alike inQuestion
 
 -- each record counts a word at least
-record-counts : (t : TermRecord) → 1 ≤ recordWords t
+pub record-counts : (t : TermRecord) → 1 ≤ recordWords t
 record-counts (constantRecord b) = omega arith
 record-counts succRecord = omega arith
 record-counts ifRecord = omega arith
