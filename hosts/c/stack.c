@@ -43,13 +43,20 @@ static void more(size_t count, const char *text) { program_length = put(count, t
 static void ask(const char *text) { question_length = put(1, text, question, 0); }
 static void asks(size_t count, const char *text) { question_length = put(count, text, question, question_length); }
 
-/* The stack of a call that comes to this ending, with no more than is enough. */
-static size_t stack(void *(*call)(void *), const char *what, uint32_t ending, size_t enough) {
-    size_t used = stack_of(call, NULL);
-    if (report[NUMBER] == 0 && report[ENDING] == ending && used <= enough)
-        return used;
-    fprintf(stderr, "stack: not so: %s: refusal %u, ending %u, %zu bytes\n", what, (unsigned)report[NUMBER], (unsigned)report[ENDING], used);
+static void expect(bool good, const char *form, const char *what, size_t seen) {
+    if (good)
+        return;
+    fprintf(stderr, "stack: not so: %s: %s (%zu)\n", form, what, seen);
     exit(1);
+}
+
+/* The stack of a call that comes to this ending, with no more than is enough. */
+static size_t stack(void *(*call)(void *), const char *form, uint32_t ending, size_t enough) {
+    size_t used = stack_of(call, NULL);
+    expect(report[NUMBER] == 0, form, "it is accepted", report[NUMBER]);
+    expect(report[ENDING] == ending, form, "it comes to its ending", report[ENDING]);
+    expect(used <= enough, form, "the stack is enough", used);
+    return used;
 }
 
 static size_t most, fewest = SIZE_MAX;
@@ -76,7 +83,11 @@ static size_t made(const Nest *form, uint32_t words) {
     more(form->levels, form->open), more(1, "19 01 14 00"), more(form->levels, form->close);
     more(1, "03 01 10"), more(11, "11"), more(1, "17 10 10 10 04");
     ask("19 00 19 01"), asks((words - 16) / 120, "11"), asks(1, "10");
-    return rewriter(form->what, words, form->ending);
+    size_t used = rewriter(form->what, words, form->ending), last = 0;
+    while (last < words && first[last] != 0)
+        last++;
+    expect(last >= words - 16, form->what, "the last term has nearly as many words as the room", last);
+    return used;
 }
 
 /* if(True, a nest, 0), as long as a question may be: the nest stands in a part that is passed over and then bound. */
@@ -110,10 +121,7 @@ static void rewriter_is_flat(void) {
                                      {"handle, handler", "16 00 10", "", 169, 1}};
     nests("term:", made, terms, sizeof terms / sizeof terms[0]);
     nests("question:", asked, questions, sizeof questions / sizeof questions[0]);
-    if (most - fewest <= FLAT)
-        return;
-    fprintf(stderr, "stack: not so: the rewriter's does not grow with the nesting: %zu to %zu bytes\n", fewest, most);
-    exit(1);
+    expect(most - fewest <= FLAT, "the rewriter", "its stack is flat in the nesting", most - fewest);
 }
 
 /* The evaluator at its levels, in the forms that took the most of those that were tried. */

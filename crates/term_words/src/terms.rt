@@ -34,7 +34,8 @@ pub struct Ends {
     pub to: usize,
 }
 
-// The exception of a handle stands behind its guarded part: it is kept for the number of terms that are owed once that is passed.
+// The exception of a handle stands behind its guarded part. Once that is passed as many terms are owed as now, the handler in place of the
+// handle; so the exception waits in the slot of that number.
 fn keep(late: &mut [u16], owed: usize, word: u16, exception: u16)
     requires { ⌜ owed < length (now late) ⌝ }
     ensures { λ _. ⌜ now (late .exit) ≡ kept (now (late .entry)) owed word exception ⌝ }
@@ -56,8 +57,8 @@ fn put_late(dst: &mut [u16], at: usize, exception: u16) -> usize
     put_words(dst, at, &one)
 }
 
-// The words of n terms, one after the other: record by record, with the number of terms still owed. What is kept is written when as
-// many are owed again.
+// The words of n terms, one after the other: record by record, with the number of terms still owed. What waits in the slot of that number
+// is written then.
 fn put_terms(
     arities: &[u8],
     bytes: &[u8],
@@ -88,7 +89,7 @@ fn put_terms(
     Ends { from: next, to }
 }
 
-// The same.
+// The same, with slots of its own.
 pub fn terms_words(
     arities: &[u8],
     bytes: &[u8],
