@@ -11,17 +11,13 @@ use borrow.Author.Tests.{ltb-true, ltb-false}
 use Rattle.theory.specs.Syntax.{Fun, pick}
 use Rattle.theory.specs.Builtins.{builtinFuns, nthFun}
 use Rattle.theory.specs.Bytes.{good, Book, RuleAt, ruleCount, openedAt, funsOf, nthArity, Agrees, programOf, readProgram}
+use Rattle.theory.proofs.Lists.{copies-same}
 use Rattle.theory.proofs.Accepted.{program-on-bytes}
 use Rattle.checker.specs.Answer.{padded, aritiesIn, builtins, table}
 use Rattle.checker.proofs.Callers.{functions-most}
 
-zeros-end : (n k : ℕ) → _≡_ {A = ℕ} (getD (replicate n 0) k 0) 0
-zeros-end zero k = refl
-zeros-end (suc n) zero = refl
-zeros-end (suc n) (suc k) = zeros-end n k
-
 zeros-behind : (xs : List ℕ) (n k : ℕ) → getD (xs ++ replicate n 0) k 0 ≡ getD xs k 0
-zeros-behind [] n k = zeros-end n k
+zeros-behind [] n k = copies-same n k 0
 zeros-behind (x ∷ xs) n zero = refl
 zeros-behind (x ∷ xs) n (suc k) = zeros-behind xs n k
 

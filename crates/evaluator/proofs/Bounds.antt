@@ -1,11 +1,12 @@
 -- The bounds: what is bound was paid for, so no count of succ signs passes the steps allowed by more than the levels.
-use mathlib.Core.Path.{_≡_, refl}
+use mathlib.Core.Path.{_≡_, refl, sym, subst}
 use mathlib.Core.Bool.{Bool, true, false}
 use mathlib.Core.List.{List, [], _∷_}
 use Prim.Native.Nat.{ℕ, zero, suc, _+_, _-_, _≤_, _<_}
 use native.Mathlib.Omega.{arith}
 use lib.Dec.{eqb, ltb, leb}
 use borrow.Author.Tests.{leb-true}
+use Rattle.theory.proofs.Lists.{copies-same}
 use Rattle.theory.proofs.Tests.{pick-any}
 use Rattle.evaluator.specs.declared.values.Value.{Value}
 use Rattle.evaluator.specs.declared.values.Ending.{Ending}
@@ -25,7 +26,7 @@ use Rattle.evaluator.specs.Values.{answer, none, nones, most, size, Smal
 use Rattle.evaluator.specs.Rows.{payOf, goOf, afterSucc, afterGuard, afterTest, turnOf, afterArg, tookOf}
 use Rattle.evaluator.specs.Fitting.{misfit, fitNode, fitOf, fitAt, fitsOf, ruleOf, foundIn, nextRule, foundFrom}
 use Rattle.evaluator.specs.Evaluation.{Fine, FineTurn, FineList, enterThen, enteredOf}
-use lib.ListN.{getD, set, replicate, length}
+use lib.ListN.{getD, set, length}
 
 pub plain : (l z : ℕ) (x : Ending) (p : ℕ) → size x ≤ most + l → p ≤ z → Fine l z (answer x p)
 plain l z x p s q = record { few = s; steps = q }
@@ -97,13 +98,8 @@ pub took-fine : (l z : ℕ) (r : Answer) → Fine l z r → FineTook l z (tookOf
 unfolding tookOf
 took-fine l z r f = arg-fine l z (r .end) (r .left) (f .few) (f .steps)
 
-small-copies : (n i : ℕ) → (getD (replicate n none) i none) .succs ≤ most
-small-copies zero i = omega arith
-small-copies (suc n) zero = omega arith
-small-copies (suc n) (suc i) = small-copies n i
-
 pub small-nones : Small nones
-small-nones = small-copies 8
+small-nones i = subst (λ (v : Value). v .succs ≤ most) (sym (copies-same 8 i none)) (omega arith)
 
 pub small-set : (b : List Value) (i : ℕ) (v : Value) → Small b → v .succs ≤ most → Small (set b i v)
 small-set [] i v s h j = s j

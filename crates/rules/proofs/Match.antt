@@ -5,7 +5,7 @@ use mathlib.Core.Logic.{_≢_, ⊎-elim}
 use mathlib.Core.Bool.{Bool, true, false, false≢true}
 use mathlib.Core.Option.{Option, none, some}
 use mathlib.Core.List.{List, [], _∷_, _++_, append-assoc, append-nil}
-use Prim.Native.Nat.{ℕ, zero, suc, _+_, _-_, _≤_, _<_}
+use Prim.Native.Nat.{ℕ, suc, _+_, _-_, _≤_, _<_}
 use native.Mathlib.Nat.{add-zero}
 use native.Mathlib.Omega.{arith}
 use lib.Dec.{eqb}
@@ -16,7 +16,7 @@ use Rattle.theory.specs.Tree.{Tree, Trees, var, node, [·], _▹_, Subst, bindT
 use Rattle.theory.specs.Words.{words, allWords, isVar, Shaped, Shapeds}
 use Rattle.theory.specs.Buffers.{part}
 use Rattle.theory.specs.Proper.{AllIn, treeVars, treesVars}
-use Rattle.theory.proofs.Lists.{or-true, elem-append, elem-one, all-in, drop-next, past-it}
+use Rattle.theory.proofs.Lists.{or-true, elem-append, elem-one, all-in, copies-same, drop-next, past-it}
 use Rattle.theory.proofs.Tests.{eqb-true, eq-of-eqb, ne-of-eqb}
 use Rattle.theory.proofs.Readability.{isVar-word, length-words}
 use Rattle.theory.proofs.Filling.{fill, fill-words}
@@ -48,17 +48,6 @@ pub size-pos : (t : Tree) → 1 ≤ size t
 size-pos (var x) = omega arith
 size-pos (node s ts) = omega arith
 
-zeros : (x : ℕ) → getD {A = ℕ} (replicate 8 0) x 0 ≡ 0
-zeros zero = refl
-zeros (suc zero) = refl
-zeros (suc (suc zero)) = refl
-zeros (suc (suc (suc zero))) = refl
-zeros (suc (suc (suc (suc zero)))) = refl
-zeros (suc (suc (suc (suc (suc zero))))) = refl
-zeros (suc (suc (suc (suc (suc (suc zero)))))) = refl
-zeros (suc (suc (suc (suc (suc (suc (suc zero))))))) = refl
-zeros (suc (suc (suc (suc (suc (suc (suc (suc x)))))))) = refl
-
 abbrev pub matched : Option Subst → Bool
 matched none = false
 matched (some σ) = true
@@ -79,7 +68,7 @@ module _ (ks ss : List ℕ) where
     pub slots : (x : ℕ) → x < 8 → Full S E x → slot S E x ≡ words (σ x)
 
   start-holds : Holds (replicate 8 0) (replicate 8 0) noSubst
-  start-holds = record { starts8 = refl; ends8 = refl; slots = λ x h l. absurd (omega (arith, zeros x, l)) }
+  start-holds = record { starts8 = refl; ends8 = refl; slots = λ x h l. absurd (omega (arith, copies-same {A = ℕ} 8 x 0, l)) }
 
   -- what is left to do after a part of the left side, whose variables are vs: their slots are filled, and those that were stay so
   pub record After (qs ps : List ℕ) (j k : ℕ) (S E : List ℕ) (τ : Subst) (vs : List ℕ) : Type 0 where

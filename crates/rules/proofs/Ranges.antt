@@ -10,6 +10,7 @@ use native.Mathlib.Omega.{arith}
 use lib.Dec.{eqb, ltb}
 use lib.ListN.{length, replicate}
 use borrow.Author.Tests.{lt-ltb, le-ltb, ltb-true, ltb-false, eqb-true, eqb-false}
+use Rattle.theory.proofs.Lists.{copies-same}
 use Rattle.theory.proofs.Tests.{pick-any}
 use Rattle.theory.specs.Syntax.{Def, Fun, pick}
 use Rattle.theory.specs.Builtins.{function, builtinFuns, nthFun, funOf, numbersOf, program}
@@ -18,7 +19,7 @@ use Rattle.theory.specs.Words.{storedRules}
 use Rattle.theory.specs.Translation.{aux, numbers, gather, raiseRule, handleRule, sameRule, otherRule, exnRules, argRule, entryRule, ownRules, funRules, commonRules, standing, ownList}
 use Rattle.rules.specs.Index.{slotOf, indexOf, spanOf, partIn}
 use Rattle.rules.proofs.Stored.{rootOf}
-use Rattle.rules.proofs.Scan.{scan, index-scan, scan-append, scan-other, scan-length, scan-first, Other, Mine, startIn, endIn, zeros, part-between}
+use Rattle.rules.proofs.Scan.{scan, index-scan, scan-append, scan-other, scan-length, scan-first, Other, Mine, startIn, endIn, part-between}
 use Rattle.rules.proofs.Indexed.{slot-le}
 
 -- ---- rules of one slot that stand together
@@ -40,7 +41,7 @@ module _ (w : ℕ) where
       let x = scan-other s before hb 0 blank in
       let y = scan-other s after ha (0 + length (storedRules before)) (scan 0 before blank) in
       part-between (indexOf (storedRules rs)) w [] [] rs
-      (ap (startIn s) (index-scan rs ∙ all) ∙ y .0 ∙ x .0 ∙ zeros 802 (2 * s)) (ap (endIn s) (index-scan rs ∙ all) ∙ y .1 ∙ x .1 ∙ zeros 802 (2 * s + 1)) .1
+      (ap (startIn s) (index-scan rs ∙ all) ∙ y .0 ∙ x .0 ∙ copies-same 802 (2 * s) 0) (ap (endIn s) (index-scan rs ∙ all) ∙ y .1 ∙ x .1 ∙ copies-same 802 (2 * s + 1) 0) .1
   together before (r ∷ own) after hb hm ha =
       let mine : List Rule = r ∷ own in
       let rs : List Rule = before ++ (mine ++ after) in
@@ -52,7 +53,7 @@ module _ (w : ℕ) where
       let l : length {A = ℕ} blank ≡ 802 = refl in
       let k = slot-le w in
       let long : 2 * s + 1 < length x1 = let n = scan-length before 0 blank in omega (arith, n, l, k) in
-      let m = scan-first s r own hm (0 + b) x1 long (x .1 ∙ zeros 802 (2 * s + 1)) in
+      let m = scan-first s r own hm (0 + b) x1 long (x .1 ∙ copies-same 802 (2 * s + 1) 0) in
       let from : startIn s (indexOf (storedRules rs)) ≡ b = ap (startIn s) (index-scan rs ∙ all) ∙ y .0 ∙ m .0 ∙ omega arith in
       let to : endIn s (indexOf (storedRules rs)) ≡ b + length (storedRules mine) = ap (endIn s) (index-scan rs ∙ all) ∙ y .1 ∙ m .1 ∙ omega arith in
       part-between (indexOf (storedRules rs)) w before mine after from to .1

@@ -3,13 +3,14 @@ use mathlib.Core.Path.{_≡_, refl, sym, ap, ap₂, subst, _∙_}
 use mathlib.Core.Logic.{_≢_}
 use mathlib.Core.Bool.{Bool, true, false}
 use mathlib.Core.List.{List, [], _∷_, _++_, append-assoc, append-nil}
-use Prim.Native.Nat.{ℕ, zero, suc, _+_, _-_, _*_, _<_, _≤_}
+use Prim.Native.Nat.{ℕ, _+_, _-_, _*_, _<_, _≤_}
 use native.Mathlib.Nat.{add-zero}
 use native.Mathlib.Omega.{arith}
 use lib.Dec.{eqb}
 use lib.ListN.{length, getD, set, take, drop, replicate, length-set, length-append}
 use lib.Seq.{getD-set-same, getD-set-other, take-append-seam, drop-append-seam}
 use borrow.Author.Tests.{eqb-true, eqb-false, eq-eqb, ne-eqb}
+use Rattle.theory.proofs.Lists.{copies-same}
 use Rattle.theory.specs.Syntax.{pick}
 use Rattle.theory.specs.Tree.{Rule}
 use Rattle.theory.specs.Words.{storedRule, storedRules}
@@ -109,11 +110,6 @@ no-words : (rs : List Rule) → length (storedRules rs) ≡ 0 → rs ≡ []
 no-words [] e = refl
 no-words (r ∷ rs) e = absurd (omega (arith, e, length-append (storedRule r) (storedRules rs)))
 
-pub zeros : (n i : ℕ) → getD {A = ℕ} (replicate n 0) i 0 ≡ 0
-zeros zero i = refl
-zeros (suc n) zero = refl
-zeros (suc n) (suc i) = zeros n i
-
 abbrev blank : List ℕ
 blank = replicate 802 0
 
@@ -211,7 +207,7 @@ pub ranged : (s : ℕ) → s ≤ 400 → (rs : List Rule) → Ranged s rs (index
 ranged s h rs =
     subst (Ranged s rs) (sym (index-scan rs))
     (many-more s [] rs blank (let l : length {A = ℕ} blank ≡ 802 = refl in omega (arith, l, h))
-    (record { before = []; between = []; after = []; whole = refl; none-before = tt; none-after = tt; start = zeros 802 (2 * s); end = zeros 802 (2 * s + 1) }))
+    (record { before = []; between = []; after = []; whole = refl; none-before = tt; none-after = tt; start = copies-same 802 (2 * s) 0; end = copies-same 802 (2 * s + 1) 0 }))
 
 -- ---- and the part of the list between them is what the index gives
 pub part-between : (index : List ℕ) (w : ℕ) (before between after : List Rule) → startIn (slotOf w) index ≡ length (storedRules before) → endIn (slotOf w) index ≡ length (storedRules before) + length (storedRules between)

@@ -5,10 +5,11 @@ use mathlib.Core.List.{List, [], _∷_}
 use lib.Dec.{eqb}
 use lib.ListN.{getD, set}
 use Rattle.theory.specs.Syntax.{pick}
+use Rattle.theory.specs.Bytes.{ceiling, inQuestion}
 
--- the most words that are written at once: a question's ceiling. Each term that is owed has a word at least, so no more are owed
+-- the most words that are written at once: a question's ceiling, which is the highest. Each term that is owed has a word at least, so no more are owed
 abbrev pub mostOwed : ℕ
-mostOwed = 512
+mostOwed = ceiling inQuestion
 
 -- what is kept, as words: none where it is 0
 abbrev pub lateWords : ℕ → List ℕ

@@ -1,5 +1,5 @@
 -- Lists: what is in them, what stands from a place on, and what holds of each of their things.
-use Prim.Native.Nat.{ℕ, _+_, _<_}
+use Prim.Native.Nat.{ℕ, zero, suc, _+_, _<_}
 use mathlib.Core.Path.{_≡_, refl, sym, ap, _∙_, subst}
 use mathlib.Core.Logic.{_⊎_, inl, inr, ⊎-elim}
 use mathlib.Core.Bool.{Bool, true, false, _||_, false≢true}
@@ -7,7 +7,7 @@ use mathlib.Core.List.{List, [], _∷_, _++_}
 use native.Mathlib.Numerals.{add-one}
 use native.Mathlib.Omega.{arith}
 use lib.Dec.{eqb}
-use lib.ListN.{length, getD, drop}
+use lib.ListN.{length, getD, drop, replicate}
 use lib.Seq.{drop-cons, drop-drop, drop-append-seam}
 use Rattle.theory.specs.Syntax.{elem}
 use Rattle.theory.specs.Proper.{AllIn}
@@ -50,6 +50,12 @@ none-left [] e = refl
 none-left (x ∷ l) e = absurd (omega (arith, e))
 
 -- the numbers from the place p on are the one at p and those from p + 1 on
+-- n times a has a at every index, and a is said to stand past them
+pub copies-same : {A : Type 0} (n i : ℕ) (a : A) → getD (replicate n a) i a ≡ a
+copies-same zero i a = refl
+copies-same (suc n) zero a = refl
+copies-same (suc n) (suc i) a = copies-same n i a
+
 pub drop-next : (ws : List ℕ) (p : ℕ) → p < length ws → drop p ws ≡ getD ws p 0 ∷ drop (p + 1) ws
 drop-next ws p h = rw add-one (drop-cons ws p 0 h)
 

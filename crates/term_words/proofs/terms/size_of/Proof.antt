@@ -7,7 +7,7 @@ use lib.ListN.{length}
 use lib.Dec.{eqb}
 use Rattle.theory.specs.Syntax.{pick}
 use Rattle.term_words.specs.Records.{Whole, from}
-use Rattle.term_words.proofs.Laws.{rooted, whole-first}
+use Rattle.term_words.proofs.Laws.{root-inside, whole-first}
 use Rattle.term_words.proofs.Count.{Going, going-start, going-turn, going-end}
 use Rattle.term_words.proofs.terms.size_of.Statement.{statement}
 use Rattle.term_words.proofs.terms.size_of.Tie as tie
@@ -43,7 +43,7 @@ bounds : (c : tie.After-root-at Inv-loop μ-loop) → let at = c .before .before
 bounds c =
     let at = c .before .before in
     let a = at .before .before .before .before .args in
-    rooted (a .arities .now) (a .bytes .now) (at .loop .next) (c .root-at .result) (here (c .before)) (c .root-at .ensures) .bounds
+    root-inside (a .arities .now) (a .bytes .now) (at .loop .next) (c .root-at .result) (c .root-at .ensures) (here (c .before))
 
 turned : (c : tie.After-root-at Inv-loop μ-loop) → let at = c .before .before in let a = at .before .before .before .before .args in
     Going (a .arities .now) (a .bytes .now) (a .p) (a .n) (at .loop .owed - 1 + c .root-at .result .parts) (c .root-at .result .next) (at .loop .count + pick (eqb (c .root-at .result .exception) 0) 1 2)
