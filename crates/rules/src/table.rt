@@ -5,7 +5,7 @@ ghost use Rattle.theory.specs.Builtins.{funOf};
 ghost use Rattle.theory.specs.Translation.{standing};
 ghost use Rattle.theory.specs.Words.{storedRules};
 
-const WORDS: usize = 389;
+const WORDS: usize = 649;
 
 pub const STANDING: [u16; WORDS] = [
     3, 1, 7, 5, 64, 64,   // guard(tt,y)->y
@@ -57,6 +57,31 @@ pub const STANDING: [u16; WORDS] = [
     3, 1, 299, 3, 4, 4,   // =_3(True,False)->False
     3, 1, 299, 4, 3, 4,   // =_3(False,True)->False
     3, 1, 299, 4, 4, 3,   // =_3(False,False)->True
+    3, 3, 304, 64, 65, 305, 64, 65,   // >=(x1,x2)->>=_1(x1,x2)
+    3, 6, 305, 64, 65, 7, 9, 64, 306, 64, 65,   // >=_1(x1,x2)->guard(isData(x1),>=_2(x1,x2))
+    3, 6, 306, 64, 65, 7, 9, 65, 307, 64, 65,   // >=_2(x1,x2)->guard(isData(x2),>=_3(x1,x2))
+    3, 3, 307, 64, 65, 280, 65, 64,   // >=_3(x,y)-><=(y,x)
+    3, 3, 312, 64, 65, 313, 64, 65,   // >(x1,x2)->>_1(x1,x2)
+    3, 6, 313, 64, 65, 7, 9, 64, 314, 64, 65,   // >_1(x1,x2)->guard(isData(x1),>_2(x1,x2))
+    3, 6, 314, 64, 65, 7, 9, 65, 315, 64, 65,   // >_2(x1,x2)->guard(isData(x2),>_3(x1,x2))
+    3, 3, 315, 64, 65, 288, 65, 64,   // >_3(x,y)-><(y,x)
+    3, 3, 320, 64, 65, 321, 64, 65,   // <>(x1,x2)-><>_1(x1,x2)
+    3, 6, 321, 64, 65, 7, 9, 64, 322, 64, 65,   // <>_1(x1,x2)->guard(isData(x1),<>_2(x1,x2))
+    3, 6, 322, 64, 65, 7, 9, 65, 323, 64, 65,   // <>_2(x1,x2)->guard(isData(x2),<>_3(x1,x2))
+    3, 4, 323, 64, 65, 272, 296, 64, 65,   // <>_3(x,y)->not(=(x,y))
+    3, 3, 328, 64, 65, 329, 64, 65,   // div(x1,x2)->div_1(x1,x2)
+    3, 6, 329, 64, 65, 7, 9, 64, 330, 64, 65,   // div_1(x1,x2)->guard(isData(x1),div_2(x1,x2))
+    3, 6, 330, 64, 65, 7, 9, 65, 331, 64, 65,   // div_2(x1,x2)->guard(isData(x2),div_3(x1,x2))
+    4, 14, 331, 64, 2, 65, 10, 288, 64, 2, 65, 1, 2, 328, 344, 64, 2, 65, 2, 65,   // div_3(x,succ(y))->if(<(x,succ(y)),0,succ(div(-(x,succ(y)),succ(y))))
+    3, 3, 336, 64, 65, 337, 64, 65,   // mod(x1,x2)->mod_1(x1,x2)
+    3, 6, 337, 64, 65, 7, 9, 64, 338, 64, 65,   // mod_1(x1,x2)->guard(isData(x1),mod_2(x1,x2))
+    3, 6, 338, 64, 65, 7, 9, 65, 339, 64, 65,   // mod_2(x1,x2)->guard(isData(x2),mod_3(x1,x2))
+    4, 13, 339, 64, 2, 65, 10, 288, 64, 2, 65, 64, 336, 344, 64, 2, 65, 2, 65,   // mod_3(x,succ(y))->if(<(x,succ(y)),x,mod(-(x,succ(y)),succ(y)))
+    3, 3, 344, 64, 65, 345, 64, 65,   // -(x1,x2)->-_1(x1,x2)
+    3, 6, 345, 64, 65, 7, 9, 64, 346, 64, 65,   // -_1(x1,x2)->guard(isData(x1),-_2(x1,x2))
+    3, 6, 346, 64, 65, 7, 9, 65, 347, 64, 65,   // -_2(x1,x2)->guard(isData(x2),-_3(x1,x2))
+    3, 1, 347, 64, 1, 64,   // -_3(x,0)->x
+    5, 3, 347, 2, 64, 2, 65, 344, 64, 65,   // -_3(succ(x),succ(y))->-(x,y)
 ];
 
 // The standing list's words. A constant is copied wherever it is named: name it once, by this, and lend it.

@@ -104,7 +104,7 @@ mutual
   length-wordss [·] = refl
   length-wordss (t ▹ ts) = length-append (words t) (allWords ts) ∙ ap₂ _+_ (length-words t) (length-wordss ts)
 
-pub standing-count : (length (standing (funOf [])) ≡ 49) × (length (storedRules (standing (funOf []))) ≡ 389)
+pub standing-count : (length (standing (funOf [])) ≡ 74) × (length (storedRules (standing (funOf []))) ≡ 649)
 standing-count = (refl, refl)
 
 -- the stored words of two lists one after the other

@@ -1,8 +1,9 @@
--- The built-in functions of document 01 (+, *, not, <=, <, =) with document 02's Q-2, and a program made from its declared functions with them.
+-- The built-in functions of document 01 (+, *, not, <=, <, =) with document 02's Q-2 and Q-4 (>=, >, <>, div, mod and their helper -), and a program
+-- made from its declared functions with them.
 use Prim.Native.Nat.{ℕ, zero, suc, _-_}
 use mathlib.Core.List.{List, [], _∷_}
 use lib.Dec.{ltb}
-use Rattle.theory.specs.Syntax.{zeroB, trueB, falseB, Term, const, succ, tvar, call, tnil, tcons, Pat, pbase, psucc, pvar, Def, Fun, Program, pick}
+use Rattle.theory.specs.Syntax.{zeroB, trueB, falseB, Term, const, succ, tvar, cond, call, tnil, tcons, Pat, pbase, psucc, pvar, Def, Fun, Program, pick}
 
 -- the built-in functions
 infix 30 _↝_
@@ -39,7 +40,7 @@ x = tvar 0
 abbrev pub y : Term
 y = tvar 1
 
--- Each with document 01's rules in their order; the rules of = for two flags are document 02's Q-2.
+-- Each with its document's rules in their order: up to 5 document 01's, with Q-2's for two flags behind those of =; from 6 on Q-4's.
 abbrev pub builtinFuns : List Fun
 builtinFuns =
     -- 0 +
@@ -55,11 +56,24 @@ builtinFuns =
     -- 5 =
     ∷ function 2 (((0̂ ∷ 0̂ ∷ []) ↝ const trueB) ∷ ((0̂ ∷ psucc (pvar 0) ∷ []) ↝ const falseB) ∷ ((psucc x̂ ∷ 0̂ ∷ []) ↝ const falseB) ∷ ((psucc x̂ ∷ psucc ŷ ∷ []) ↝ call2 5 x y)
     ∷ ((truê ∷ truê ∷ []) ↝ const trueB) ∷ ((truê ∷ falsê ∷ []) ↝ const falseB) ∷ ((falsê ∷ truê ∷ []) ↝ const falseB) ∷ ((falsê ∷ falsê ∷ []) ↝ const trueB) ∷ [])
+    -- 6 >=
+    ∷ function 2 (((x̂ ∷ ŷ ∷ []) ↝ call2 3 y x) ∷ [])
+    -- 7 >
+    ∷ function 2 (((x̂ ∷ ŷ ∷ []) ↝ call2 4 y x) ∷ [])
+    -- 8 <>
+    ∷ function 2 (((x̂ ∷ ŷ ∷ []) ↝ call 2 (tcons (call2 5 x y) tnil)) ∷ [])
+    -- 9 div
+    ∷ function 2 (((x̂ ∷ psucc ŷ ∷ []) ↝ cond (call2 4 x (succ y)) o (succ (call2 9 (call2 11 x (succ y)) (succ y)))) ∷ [])
+    -- 10 mod
+    ∷ function 2 (((x̂ ∷ psucc ŷ ∷ []) ↝ cond (call2 4 x (succ y)) x (call2 10 (call2 11 x (succ y)) (succ y))) ∷ [])
+    -- 11 -, the helper of div and mod
+    ∷ function 2 (((x̂ ∷ 0̂ ∷ []) ↝ x) ∷ ((psucc x̂ ∷ psucc ŷ ∷ []) ↝ call2 11 x y) ∷ [])
     ∷ []
 
--- A program or a question may call those up to this one: "a built-in over 5" is refused. No other file says the number.
+-- A program or a question may call those up to this one: a call of the helper "is refused with 4 like any built-in over 10". No other file says
+-- the number.
 abbrev pub lastCalled : ℕ
-lastCalled = 5
+lastCalled = 10
 
 abbrev pub nthFun : List Fun → ℕ → Fun
 nthFun [] i = function 0 []
