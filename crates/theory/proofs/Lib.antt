@@ -57,4 +57,6 @@ pub mod Examples
 -- what the built-in functions give
 pub mod PaperAnswered
 pub mod Equality
+pub mod ExactCost
+pub mod Allowances
 pub mod Reached

@@ -1,13 +1,13 @@
--- What the built-in functions are to give, in the words of document 02's Q-2. proofs/Equality holds the rules against it.
-use Prim.Native.Nat.{ℕ, zero, suc, _≤_}
+-- What the built-in functions are to give, in the words of document 02's Q-2 and Q-4. proofs/Equality and proofs/Reached hold the rules against it.
+use Prim.Native.Nat.{ℕ, zero, suc, _-_, _/_, _%_, _≤_}
 use mathlib.Core.Path.{_≡_}
 use mathlib.Core.Bool.{Bool, true, false}
 use mathlib.Core.List.{[], _∷_}
 use mathlib.Core.Option.{some}
-use lib.Dec.{eqb, ltb}
+use lib.Dec.{eqb, leb, ltb}
 use Rattle.theory.specs.Syntax.{Base, zeroB, trueB, falseB, Val, base, up, height, baseOf, Term, const, succ, Terms, call, Program, Bindings, nothingBound, pick}
 use Rattle.theory.specs.Builtins.{call2}
-use Rattle.theory.specs.Evaluation.{Outcome, normal, other, normals, Ev, EvArgs, outcomeOf}
+use Rattle.theory.specs.Evaluation.{Outcome, normal, exception, other, normals, Ev, EvArgs, outcomeOf}
 use Rattle.theory.specs.Cost.{eval}
 
 -- succ n times over a value; the number n, and a test's answer, as values
@@ -59,3 +59,25 @@ againstSucc falseB = other
 abbrev pub equality : Val → Val → Outcome
 equality v w =
     pick (eqb (height v) (height w)) (equalBases (baseOf v) (baseOf w)) (pick (ltb (height v) (height w)) (againstSucc (baseOf v)) (againstSucc (baseOf w)))
+
+-- Q-4: `<>(x,y)→not(=(x,y))`: the opposite of what = gives
+abbrev pub opposite : Outcome → Outcome
+opposite (normal (base zeroB)) = other
+opposite (normal (base trueB)) = normal (flag false)
+opposite (normal (base falseB)) = normal (flag true)
+opposite (normal (up v)) = other
+opposite (exception e) = exception e
+opposite other = other
+
+-- Q-4: - gives the difference where there is one, and is stuck elsewhere; "`div` and `mod` give quotient and remainder, and with divisor 0 are
+-- stuck". / and % are the library's.
+abbrev pub difference : ℕ → ℕ → Outcome
+difference m n = pick (leb n m) (normal (num (m - n))) other
+
+abbrev pub quotient : ℕ → ℕ → Outcome
+quotient m zero = other
+quotient m (suc n) = normal (num (m / suc n))
+
+abbrev pub remainder : ℕ → ℕ → Outcome
+remainder m zero = other
+remainder m (suc n) = normal (num (m % suc n))

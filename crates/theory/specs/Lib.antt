@@ -27,3 +27,5 @@ pub mod Buffers
 pub mod Answers
 pub mod Demands
 pub mod Sums
+-- 6. What the built-in functions give and take on numbers
+pub mod Allowances

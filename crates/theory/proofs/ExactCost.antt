@@ -1,0 +1,246 @@
+-- WHAT A TERM TAKES, EXACTLY, from what its parts take: the levels with which it ends and without which it is too deep, and the steps. Every term
+-- that ends takes some.
+use Prim.Native.Nat.{ℕ, zero, suc, _+_, max, _≤_, _<_}
+use mathlib.Core.Path.{_≡_, refl, sym, ap, ap₂, _∙_, subst}
+use mathlib.Core.Logic.{_≢_, _⊎_, inl, inr}
+use mathlib.Core.Bool.{Bool, true, false, false≢true}
+use mathlib.Core.List.{List, [], _∷_}
+use mathlib.Core.Option.{Option, none, some}
+use native.Mathlib.Omega.{arith}
+use lib.Dec.{leb}
+use Rattle.theory.specs.Syntax.{Base, zeroB, trueB, falseB, Val, base, up, height, Term, const, succ, tvar, cond, call, tnil, tcons, Program, Bindings, nothingBound, Found, chosen, pick}
+use Rattle.theory.specs.Builtins.{call2}
+use Rattle.theory.specs.Endings.{Ending, value, raised, stuck, tooDeep, is, outOfSteps, says, Final}
+use Rattle.theory.specs.Cost.{Cost, paying, after, Evaluating, succRow, ifRow, payingArgs, vals, ArgCost, argRow, evalArgs, bodyRow, callRow, eval, cut, evaluator}
+use Rattle.theory.specs.Arithmetic.{flag, written, asked}
+use Rattle.theory.specs.Allowances.{Costs, Takes, callSteps}
+use Rattle.theory.proofs.Tests.{leb-true, leb-false, le-of-leb, lt-of-leb}
+use Rattle.theory.proofs.Levels.{Keeps, more-levels}
+
+-- enough, or too few
+pub enough-or-not : (l L : ℕ) → (l ≤ L) ⊎ (L < l)
+enough-or-not l L = go (leb l L) refl
+  where
+    go : (b : Bool) → leb l L ≡ b → (l ≤ L) ⊎ (L < l)
+    go true e = inl (le-of-leb l L e)
+    go false e = inr (lt-of-leb l L e)
+
+abbrev isDeep : Ending → Bool
+isDeep (value v) = false
+isDeep (raised e) = false
+isDeep (stuck s) = false
+isDeep tooDeep = true
+
+module _ (P : Program) where
+  -- the same said with other numbers
+  pub costs-so : {θ : Bindings} {t : Term} {l l′ : ℕ} {m m′ : Ending} {c c′ : ℕ} → l ≡ l′ → m ≡ m′ → c ≡ c′ → Costs P θ t l m c → Costs P θ t l′ m′ c′
+  costs-so {θ} {t} {l} {l′} {m} {m′} {c} {c′} el em ec h =
+      subst (λ (x : ℕ). Costs P θ t x m′ c′) el (subst (λ (x : Ending). Costs P θ t l x c′) em (subst (λ (x : ℕ). Costs P θ t l m x) ec h))
+
+  pub takes-so : {k : ℕ} {v w : Val} {l l′ : ℕ} {m m′ : Ending} {c c′ : ℕ} → l ≡ l′ → m ≡ m′ → c ≡ c′ → Takes P k v w l m c → Takes P k v w l′ m′ c′
+  takes-so {k} {v} {w} {l} {l′} {m} {m′} {c} {c′} el em ec h =
+      subst (λ (x : ℕ). Takes P k v w x m′ c′) el (subst (λ (x : Ending). Takes P k v w l x c′) em (subst (λ (x : ℕ). Takes P k v w l m x) ec h))
+
+  -- a constant, a variable: one level, no steps
+  pub constant-costs : {θ : Bindings} (b : Base) → Costs P θ (const b) 1 (value (base b)) 0
+  unfolding eval
+  constant-costs {θ} b = record { ends = ends; deep = deep }
+    where
+      ends : (L : ℕ) → 1 ≤ L → eval P L θ (const b) ≡ paying (value (base b)) 0
+      ends zero h = absurd (omega (arith, h))
+      ends (suc L) h = refl
+
+      deep : (L : ℕ) → L < 1 → eval P L θ (const b) .ending ≡ tooDeep
+      deep zero h = refl
+      deep (suc L) h = absurd (omega (arith, h))
+
+  pub variable-costs : {θ : Bindings} (i : ℕ) → Costs P θ (tvar i) 1 (value (θ i)) 0
+  unfolding eval
+  variable-costs {θ} i = record { ends = ends; deep = deep }
+    where
+      ends : (L : ℕ) → 1 ≤ L → eval P L θ (tvar i) ≡ paying (value (θ i)) 0
+      ends zero h = absurd (omega (arith, h))
+      ends (suc L) h = refl
+
+      deep : (L : ℕ) → L < 1 → eval P L θ (tvar i) .ending ≡ tooDeep
+      deep zero h = refl
+      deep (suc L) h = absurd (omega (arith, h))
+
+  -- succ: one level more
+  pub succ-costs : {θ : Bindings} {t : Term} {l c : ℕ} {v : Val} → Costs P θ t l (value v) c → Costs P θ (succ t) (1 + l) (value (up v)) c
+  unfolding eval
+  succ-costs {θ} {t} {l} {c} {v} k = record { ends = ends; deep = deep }
+    where
+      ends : (L : ℕ) → 1 + l ≤ L → eval P L θ (succ t) ≡ paying (value (up v)) c
+      ends zero h = absurd (omega (arith, h))
+      ends (suc L) h = ap (λ (r : Cost). succRow (r .ending) (r .paid)) (k .ends L (omega (arith, h)))
+
+      deep : (L : ℕ) → L < 1 + l → eval P L θ (succ t) .ending ≡ tooDeep
+      deep zero h = refl
+      deep (suc L) h = ap (λ (m : Ending). succRow m (eval P L θ t .paid) .ending) (k .deep L (omega (arith, h)))
+
+  -- if: a step, and the part that the test picks
+  pub if-costs : {θ : Bindings} {t s u : Term} {l l′ c d : ℕ} {m : Ending} (b : Bool) → Costs P θ t l (value (flag b)) c → Costs P θ (pick b s u) l′ m d
+      → Costs P θ (cond t s u) (1 + max l l′) m (c + 1 + d)
+  unfolding eval
+  if-costs {θ} {t} {s} {u} {l} {l′} {c} {d} {m} b test part = record { ends = ends; deep = deep }
+    where
+      picked : (b : Bool) (L : ℕ) → ifRow (eval P L) θ s u (value (flag b)) c ≡ after (c + 1) (eval P L θ (pick b s u))
+      picked true L = refl
+      picked false L = refl
+
+      tested : (L : ℕ) → l ≤ L → eval P (suc L) θ (cond t s u) ≡ after (c + 1) (eval P L θ (pick b s u))
+      tested L h = ap (λ (r : Cost). ifRow (eval P L) θ s u (r .ending) (r .paid)) (test .ends L h) ∙ picked b L
+
+      ends : (L : ℕ) → 1 + max l l′ ≤ L → eval P L θ (cond t s u) ≡ paying m (c + 1 + d)
+      ends zero h = absurd (omega (arith, h))
+      ends (suc L) h = tested L (omega (arith, h)) ∙ ap (after (c + 1)) (part .ends L (omega (arith, h)))
+
+      untested : (L : ℕ) → L < l → eval P (suc L) θ (cond t s u) .ending ≡ tooDeep
+      untested L h = ap (λ (r : Ending). ifRow (eval P L) θ s u r (eval P L θ t .paid) .ending) (test .deep L h)
+
+      below : (L : ℕ) → L < max l l′ → (l ≤ L) ⊎ (L < l) → eval P (suc L) θ (cond t s u) .ending ≡ tooDeep
+      below L h (inl k) = ap (λ (r : Cost). r .ending) (tested L k) ∙ part .deep L (omega (arith, h, k))
+      below L h (inr k) = untested L k
+
+      deep : (L : ℕ) → L < 1 + max l l′ → eval P L θ (cond t s u) .ending ≡ tooDeep
+      deep zero h = refl
+      deep (suc L) h = below L (omega (arith, h)) (enough-or-not l L)
+
+  -- A CALL OF TWO ARGUMENTS: where these have their values, the rule that fits goes on
+  module _ {θ : Bindings} {a b : Term} {la lb ca cb : ℕ} {v w : Val} (k : ℕ) (ka : Costs P θ a la (value v) ca) (kb : Costs P θ b lb (value w) cb) where
+    abbrev theCall : Term
+    theCall = call2 k a b
+
+    abbrev argumentsPaid : ℕ
+    argumentsPaid = 1 + (ca + height v + 3 + (cb + height w + 3 + 0))
+
+    called : (L : ℕ) → la ≤ L → lb ≤ L → eval P (suc L) θ theCall ≡ bodyRow (eval P L) argumentsPaid (chosen (P .fun k .defs) (v ∷ w ∷ []))
+    unfolding eval
+    called L ha hb =
+        ap₂ (λ (r q : Cost).
+            let s = argRow (λ (u : Unit {0}). argRow (λ (u : Unit {0}). payingArgs (vals []) 0) (q .ending) (q .paid)) (r .ending) (r .paid) in
+            callRow (eval P L) (P .fun k .defs) (s .args) (s .argsPaid))
+        (ka .ends L ha) (kb .ends L hb)
+
+    -- too deep in the first, in the second
+    first-deep : (L : ℕ) → L < la → eval P (suc L) θ theCall .ending ≡ tooDeep
+    unfolding eval
+    first-deep L h =
+        ap (λ (m : Ending).
+            let s = argRow (λ (u : Unit {0}). evalArgs (eval P L) θ (tcons b tnil)) m (eval P L θ a .paid) in
+            callRow (eval P L) (P .fun k .defs) (s .args) (s .argsPaid) .ending)
+        (ka .deep L h)
+
+    second-deep : (L : ℕ) → la ≤ L → L < lb → eval P (suc L) θ theCall .ending ≡ tooDeep
+    unfolding eval
+    second-deep L ha h =
+        ap₂ (λ (r : Cost) (m : Ending).
+            let s = argRow (λ (u : Unit {0}). argRow (λ (u : Unit {0}). payingArgs (vals []) 0) m (eval P L θ b .paid)) (r .ending) (r .paid) in
+            callRow (eval P L) (P .fun k .defs) (s .args) (s .argsPaid) .ending)
+        (ka .ends L ha) (kb .deep L h)
+
+    -- what the call takes, if below it so many levels are taken and so many steps paid by what is chosen
+    call-costs : (l c : ℕ) (m : Ending) → ((L : ℕ) → la ≤ L → l ≤ L → bodyRow (eval P L) argumentsPaid (chosen (P .fun k .defs) (v ∷ w ∷ [])) ≡ paying m c)
+        → ((L : ℕ) → la ≤ L → L < l → bodyRow (eval P L) argumentsPaid (chosen (P .fun k .defs) (v ∷ w ∷ [])) .ending ≡ tooDeep)
+        → Costs P θ theCall (1 + max (max la lb) l) m c
+    unfolding eval
+    call-costs l c m whole part = record { ends = ends; deep = deep }
+      where
+        ends : (L : ℕ) → 1 + max (max la lb) l ≤ L → eval P L θ theCall ≡ paying m c
+        ends zero h = absurd (omega (arith, h))
+        ends (suc L) h = called L (omega (arith, h)) (omega (arith, h)) ∙ whole L (omega (arith, h)) (omega (arith, h))
+
+        below : (L : ℕ) → L < max (max la lb) l → (la ≤ L) ⊎ (L < la) → (lb ≤ L) ⊎ (L < lb) → eval P (suc L) θ theCall .ending ≡ tooDeep
+        below L h (inr x) y = first-deep L x
+        below L h (inl x) (inr y) = second-deep L x y
+        below L h (inl x) (inl y) = ap (λ (r : Cost). r .ending) (called L x y) ∙ part L x (omega (arith, h, x, y))
+
+        deep : (L : ℕ) → L < 1 + max (max la lb) l → eval P L θ theCall .ending ≡ tooDeep
+        deep zero h = refl
+        deep (suc L) h = below L (omega (arith, h)) (enough-or-not la L) (enough-or-not lb L)
+
+  -- a term with a value takes a level at least
+  pub some-level : {θ : Bindings} {t : Term} {l c : ℕ} {v : Val} → Costs P θ t l (value v) c → 1 ≤ l
+  unfolding eval
+  some-level {θ} {t} {l} {c} {v} k = go l (k .ends 0)
+    where
+      go : (l : ℕ) → (l ≤ 0 → eval P 0 θ t ≡ paying (value v) c) → 1 ≤ l
+      go zero h = absurd (false≢true (sym (ap (λ (r : Cost). isDeep (r .ending)) (h (omega arith)))))
+      go (suc l) h = omega arith
+
+  -- A BUILT-IN takes what the right side of the rule that fits takes; where none fits, it is stuck after the charges of the call
+  pub rule-takes : {k : ℕ} {v w : Val} {f : Found} {l c : ℕ} {m : Ending} → chosen (P .fun k .defs) (v ∷ w ∷ []) ≡ some f → Costs P (f .bound) (f .body) l m c
+      → Takes P k v w l m (callSteps (height v) (height w) + c)
+  rule-takes {k} {v} {w} {f} {l} {c} {m} e r = record {
+    called = λ {θ} {a} {b} {la} {lb} {ca} {cb} ka kb.
+        call-costs k ka kb l (ca + cb + (callSteps (height v) (height w) + c)) m
+        (λ L ha hl. ap (bodyRow (eval P L) _) e ∙ ap (after _) (r .ends L hl) ∙ ap (paying m) (omega arith))
+        (λ L ha hl. ap (λ (o : Option Found). bodyRow (eval P L) (argumentsPaid k ka kb) o .ending) e ∙ r .deep L hl);
+  }
+
+  pub none-takes : {k : ℕ} {v w : Val} → chosen (P .fun k .defs) (v ∷ w ∷ []) ≡ none → Takes P k v w 1 (stuck 0) (height v + height w + 7)
+  none-takes {k} {v} {w} e = record {
+    called = λ {θ} {a} {b} {la} {lb} {ca} {cb} ka kb.
+        let some = some-level ka in
+        call-costs k ka kb 1 (ca + cb + (height v + height w + 7)) (stuck 0)
+        (λ L ha hl. ap (bodyRow (eval P L) _) e ∙ ap (paying (stuck 0)) (omega arith)) (λ L ha hl. absurd (omega (arith, some, ha, hl)));
+  }
+
+  -- a value written down: no steps, and a level more than it has succ
+  pub written-costs : {θ : Bindings} (v : Val) → Costs P θ (written v) (suc (height v)) (value v) 0
+  written-costs (base b) = constant-costs b
+  written-costs (up v) = costs-so (omega arith) refl refl (succ-costs (written-costs v))
+
+  pub asked-costs : {θ : Bindings} {k : ℕ} {v w : Val} {l c : ℕ} {m : Ending} → Takes P k v w l m c
+      → Costs P θ (asked k v w) (1 + max (max (suc (height v)) (suc (height w))) l) m c
+  asked-costs {θ} {k} {v} {w} {l} {c} {m} t = costs-so refl refl (omega arith) (t .called (written-costs v) (written-costs w))
+
+  -- EVERY TERM WITH A VALUE takes some levels and steps exactly
+  module _ (θ : Bindings) (t : Term) where
+    more-keep : {v : Val} {c : ℕ} (L L′ : ℕ) → L ≤ L′ → eval P L θ t ≡ paying (value v) c → eval P L′ θ t ≡ paying (value v) c
+    more-keep L L′ h e = subst (λ (r : Cost). Keeps (r .ending) (r .paid) (eval P L′ θ t)) e (more-levels P L L′ h θ t)
+
+    fewer-deep : (L L′ : ℕ) → L ≤ L′ → eval P L′ θ t .ending ≡ tooDeep → eval P L θ t .ending ≡ tooDeep
+    fewer-deep L L′ h e = go (eval P L θ t .ending) (eval P L θ t .paid) (more-levels P L L′ h θ t)
+      where
+        differ : (m : Ending) → isDeep m ≡ false → eval P L′ θ t .ending ≡ m → m ≡ tooDeep
+        differ m n k = absurd (false≢true (sym n ∙ ap isDeep (sym k ∙ e)))
+
+        go : (m : Ending) (c : ℕ) → Keeps m c (eval P L′ θ t) → m ≡ tooDeep
+        go (value v) c k = differ (value v) refl (ap (λ (r : Cost). r .ending) k)
+        go (raised x) c k = differ (raised x) refl (ap (λ (r : Cost). r .ending) k)
+        go (stuck s) c k = differ (stuck s) refl (ap (λ (r : Cost). r .ending) k)
+        go tooDeep c k = refl
+
+    pub value-costs : {v : Val} {c : ℕ} (L : ℕ) → eval P L θ t ≡ paying (value v) c → (l : ℕ) × Costs P θ t l (value v) c
+    unfolding eval
+    value-costs zero e = absurd (false≢true (sym (ap (λ (r : Cost). isDeep (r .ending)) e)))
+    value-costs {v} {c} (suc L) e =
+        go (eval P L θ t .ending) (eval P L θ t .paid) refl (more-levels P L (suc L) (omega arith) θ t) (λ h. value-costs L h)
+      where
+        go : (m : Ending) (d : ℕ) → eval P L θ t ≡ paying m d → Keeps m d (eval P (suc L) θ t)
+            → (eval P L θ t ≡ paying (value v) c → (l : ℕ) × Costs P θ t l (value v) c) → (l : ℕ) × Costs P θ t l (value v) c
+        go (value u) d h k before = before (h ∙ sym k ∙ e)
+        go (raised x) d h k before = before (h ∙ sym k ∙ e)
+        go (stuck s) d h k before = before (h ∙ sym k ∙ e)
+        go tooDeep d h k before =
+            (suc L, record { ends = λ L′ n. more-keep (suc L) L′ n e; deep = λ L′ n. fewer-deep L′ L (omega (arith, n)) (ap (λ (r : Cost). r .ending) h) })
+
+  -- THE EVALUATOR, of a term that takes just so much: with both it answers; with fewer steps it is out of steps; with fewer levels it answers nothing
+  module _ {t : Term} {l c : ℕ} {m : Ending} (k : Costs P nothingBound t l m c) (L n : ℕ) where
+    pub costs-enough : l ≤ L → c ≤ n → evaluator P L n t ≡ says (is m) c
+    unfolding evaluator
+    costs-enough hl hc = ap (cut n) (k .ends L hl) ∙ ap (λ (b : Bool). pick b (says (is m) c) (says outOfSteps n)) (leb-true c n hc)
+
+    pub costs-out : l ≤ L → n < c → evaluator P L n t ≡ says outOfSteps n
+    unfolding evaluator
+    costs-out hl hc = ap (cut n) (k .ends L hl) ∙ ap (λ (b : Bool). pick b (says (is m) c) (says outOfSteps n)) (leb-false c n hc)
+
+    pub costs-deep : L < l → Final (evaluator P L n t .said) → ⊥
+    unfolding evaluator
+    costs-deep h = go (leb (eval P L nothingBound t .paid) n) (eval P L nothingBound t .ending) (k .deep L h)
+      where
+        go : (b : Bool) (e : Ending) → e ≡ tooDeep → Final (pick b (says (is e) (eval P L nothingBound t .paid)) (says outOfSteps n) .said) → ⊥
+        go true e h f = subst (λ (e : Ending). Final (is e)) h f
+        go false e h f = f
