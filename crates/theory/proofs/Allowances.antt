@@ -1,14 +1,14 @@
 -- WHAT THE BUILT-IN FUNCTIONS GIVE AND TAKE ON NUMBERS is what specs/Allowances says, in every program (document 02, Q-4).
 use Prim.Native.Nat.{ℕ, zero, suc, _+_, _*_, _-_, _/_, _%_, min, max, _≤_, _<_}
-use mathlib.Core.Path.{_≡_, refl, sym, ap, ap₂, _∙_, subst}
+use mathlib.Core.Path.{_≡_, refl, sym, ap, ap₂, _∙_}
 use mathlib.Core.Bool.{Bool, true, false, not}
 use mathlib.Core.List.{List, [], _∷_}
 use mathlib.Core.Option.{none, some}
 use native.Mathlib.Omega.{arith}
 use native.Mathlib.Nat.{suc-mul, mul-suc, mul-add, add-mul, mul-comm, mul-assoc, add-comm, sub-zero, suc-sub-suc, div-add-mod', div-eq-of-lt, div-eq-sub-div, mod-eq-of-lt, mod-eq-sub-mod, mod-lt}
 use lib.Dec.{eqb, leb, ltb, leb·zero, leb·suc-zero, leb·suc-suc, eqb·zero-suc, eqb·suc-zero, eqb·suc-suc}
-use Rattle.theory.specs.Syntax.{Base, zeroB, trueB, falseB, Val, base, up, height, Term, const, succ, tvar, cond, call, tnil, tcons, Fun, Program, Bindings, bindValue, nothingBound, Found, chosen, pick}
-use Rattle.theory.specs.Builtins.{program, call2, o, x, y}
+use Rattle.theory.specs.Syntax.{Base, zeroB, trueB, falseB, base, height, Term, const, succ, call, tnil, tcons, Fun, Program, Bindings, bindValue, nothingBound, Found, chosen, pick}
+use Rattle.theory.specs.Builtins.{program, call2, x, y}
 use Rattle.theory.specs.Evaluation.{normal, other}
 use Rattle.theory.specs.Endings.{Ending, value, stuck, tooDeep}
 use Rattle.theory.specs.Cost.{Cost, paying, payingArgs, vals, argRow, callRow, eval}

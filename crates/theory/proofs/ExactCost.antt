@@ -4,14 +4,14 @@ use Prim.Native.Nat.{ℕ, zero, suc, _+_, max, _≤_, _<_}
 use mathlib.Core.Path.{_≡_, refl, sym, ap, ap₂, _∙_, subst}
 use mathlib.Core.Logic.{_≢_, _⊎_, inl, inr}
 use mathlib.Core.Bool.{Bool, true, false, false≢true}
-use mathlib.Core.List.{List, [], _∷_}
+use mathlib.Core.List.{[], _∷_}
 use mathlib.Core.Option.{Option, none, some}
 use native.Mathlib.Omega.{arith}
 use lib.Dec.{leb}
-use Rattle.theory.specs.Syntax.{Base, zeroB, trueB, falseB, Val, base, up, height, Term, const, succ, tvar, cond, call, tnil, tcons, Program, Bindings, nothingBound, Found, chosen, pick}
+use Rattle.theory.specs.Syntax.{Base, Val, base, up, height, Term, const, succ, tvar, cond, tnil, tcons, Program, Bindings, nothingBound, Found, chosen, pick}
 use Rattle.theory.specs.Builtins.{call2}
 use Rattle.theory.specs.Endings.{Ending, value, raised, stuck, tooDeep, is, outOfSteps, says, Final}
-use Rattle.theory.specs.Cost.{Cost, paying, after, Evaluating, succRow, ifRow, payingArgs, vals, ArgCost, argRow, evalArgs, bodyRow, callRow, eval, cut, evaluator}
+use Rattle.theory.specs.Cost.{Cost, paying, after, succRow, ifRow, payingArgs, vals, argRow, evalArgs, bodyRow, callRow, eval, cut, evaluator}
 use Rattle.theory.specs.Arithmetic.{flag, written, asked}
 use Rattle.theory.specs.Allowances.{Costs, Takes, callSteps}
 use Rattle.theory.proofs.Tests.{leb-true, leb-false, le-of-leb, lt-of-leb}

@@ -1,6 +1,6 @@
 -- THE BUILT-IN FUNCTIONS, ANSWERED, in every accepted program: = and <> about every pair of values (document 02, Q-2 and Q-4), and each row of the
 -- table about all numbers (Q-4). With levels and steps enough the evaluator answers so, and neither call ever answers otherwise.
-use Prim.Native.Nat.{ℕ, zero, suc, _+_, max, _≤_, _<_}
+use Prim.Native.Nat.{ℕ, zero, suc, _+_, max, _≤_}
 use mathlib.Core.Path.{_≡_, refl, sym, ap, ap₂, _∙_, subst}
 use mathlib.Core.Logic.{_↔_, inl}
 use mathlib.Core.Bool.{Bool, true, false, false≢true}
@@ -10,8 +10,8 @@ use native.Mathlib.Omega.{arith}
 use Rattle.theory.specs.Syntax.{Val, base, up, Term, Terms, call, Fun, Program, Bindings, nothingBound}
 use Rattle.theory.specs.Builtins.{builtinFuns, lastCalled, nthFun}
 use Rattle.theory.specs.Evaluation.{Outcome, normal, exception, other, normals, Ev, EvArgs, succ-normal, constant, no-arguments, rest-normal, outcomeOf}
-use Rattle.theory.specs.Endings.{Ending, value, raised, stuck, tooDeep, is, says}
-use Rattle.theory.specs.Cost.{Cost, paying, eval, evaluator}
+use Rattle.theory.specs.Endings.{Ending, value, raised, stuck, tooDeep}
+use Rattle.theory.specs.Cost.{Cost, paying, eval}
 use Rattle.theory.specs.Proper.{termVars}
 use Rattle.theory.specs.Bytes.{good, Declared, Book, funsOf, readProgram, programOf, readQuestion}
 use Rattle.theory.specs.Answers.{answer}
