@@ -108,7 +108,7 @@ turns-next q r d m e l =
     let f : (d + 1) * (m + 8) ≡ d * m + 8 * d + m + 8 = add-mul d 1 (m + 8) ∙ ap (λ (k : ℕ). k + 1 * (m + 8)) (mul-add d m 8) ∙ omega arith in
     let g : suc q * r + d * triangle (suc q) ≡ (q * r + d * triangle q) + m = inner in
     let h : (2 * d + 3) * ((q * r + d * triangle q) + m) ≡ (2 * d + 3) * (q * r + d * triangle q) + (2 * (d * m) + 3 * m) =
-        mul-add (2 * d + 3) (q * r + d * triangle q) m ∙ ap (λ (k : ℕ). (2 * d + 3) * (q * r + d * triangle q) + k) (add-mul (2 * d) 3 m ∙ ap (λ (k : ℕ). k + 3 * m) (mul-assoc 2 d m)) in
+    mul-add (2 * d + 3) (q * r + d * triangle q) m ∙ ap (λ (k : ℕ). (2 * d + 3) * (q * r + d * triangle q) + k) (add-mul (2 * d) 3 m ∙ ap (λ (k : ℕ). k + 3 * m) (mul-assoc 2 d m)) in
     let i = ap (λ (k : ℕ). (2 * d + 3) * k) g ∙ h in
     let j : suc q * (17 * d + 25) ≡ q * (17 * d + 25) + (17 * d + 25) = suc-mul q (17 * d + 25) in
     sum ((2 * d + 3) * (suc q * r + d * triangle (suc q))) ((2 * d + 3) * (q * r + d * triangle q)) (d * m) m d (suc q * (17 * d + 25)) (q * (17 * d + 25)) (turnedSteps r d) (compareSteps m d) i j (c ∙ f)
@@ -244,7 +244,7 @@ module _ (k : ℕ) (fs : List Fun) where
       deep zero g = refl
       deep (suc L) g =
           ap (λ (m : Ending).
-              let s = argRow (λ (u : Unit {0}). payingArgs (vals []) 0) m (eval P L θ t .paid) in callRow (eval P L) (P .fun 2 .defs) (s .args) (s .argsPaid) .ending)
+          let s = argRow (λ (u : Unit {0}). payingArgs (vals []) 0) m (eval P L θ t .paid) in callRow (eval P L) (P .fun 2 .defs) (s .args) (s .argsPaid) .ending)
           (h .deep L (omega (arith, g)))
 
   pub differs-takes : (m n : ℕ) → Takes P 8 (num m) (num n) (compareLevels m n + 2) (value (flag (not (eqb m n)))) (differSteps m n)

@@ -119,8 +119,8 @@ module _ (P : Program) where
     unfolding eval
     called L ha hb =
         ap₂ (λ (r q : Cost).
-            let s = argRow (λ (u : Unit {0}). argRow (λ (u : Unit {0}). payingArgs (vals []) 0) (q .ending) (q .paid)) (r .ending) (r .paid) in
-            callRow (eval P L) (P .fun k .defs) (s .args) (s .argsPaid))
+        let s = argRow (λ (u : Unit {0}). argRow (λ (u : Unit {0}). payingArgs (vals []) 0) (q .ending) (q .paid)) (r .ending) (r .paid) in
+        callRow (eval P L) (P .fun k .defs) (s .args) (s .argsPaid))
         (ka .ends L ha) (kb .ends L hb)
 
     -- too deep in the first, in the second
@@ -128,16 +128,16 @@ module _ (P : Program) where
     unfolding eval
     first-deep L h =
         ap (λ (m : Ending).
-            let s = argRow (λ (u : Unit {0}). evalArgs (eval P L) θ (tcons b tnil)) m (eval P L θ a .paid) in
-            callRow (eval P L) (P .fun k .defs) (s .args) (s .argsPaid) .ending)
+        let s = argRow (λ (u : Unit {0}). evalArgs (eval P L) θ (tcons b tnil)) m (eval P L θ a .paid) in
+        callRow (eval P L) (P .fun k .defs) (s .args) (s .argsPaid) .ending)
         (ka .deep L h)
 
     second-deep : (L : ℕ) → la ≤ L → L < lb → eval P (suc L) θ theCall .ending ≡ tooDeep
     unfolding eval
     second-deep L ha h =
         ap₂ (λ (r : Cost) (m : Ending).
-            let s = argRow (λ (u : Unit {0}). argRow (λ (u : Unit {0}). payingArgs (vals []) 0) m (eval P L θ b .paid)) (r .ending) (r .paid) in
-            callRow (eval P L) (P .fun k .defs) (s .args) (s .argsPaid) .ending)
+        let s = argRow (λ (u : Unit {0}). argRow (λ (u : Unit {0}). payingArgs (vals []) 0) m (eval P L θ b .paid)) (r .ending) (r .paid) in
+        callRow (eval P L) (P .fun k .defs) (s .args) (s .argsPaid) .ending)
         (ka .ends L ha) (kb .deep L h)
 
     -- what the call takes, if below it so many levels are taken and so many steps paid by what is chosen
