@@ -371,6 +371,10 @@ fn rule(
 
 fn question(random: &mut Random, shape: &Shape) -> Vec<u8> {
     let mut bytes = Vec::new();
+    if random.chance(8) {
+        plain_builtin(random, &mut bytes);
+        return bytes;
+    }
     if !shape.signatures.is_empty() && random.chance(55) {
         plain_call(random, shape, &mut bytes);
         return bytes;
@@ -385,6 +389,20 @@ fn question(random: &mut Random, shape: &Shape) -> Vec<u8> {
     let sort = sort(random);
     term(random, shape, &Scope::question(), sort, words, &mut bytes);
     bytes
+}
+
+/// Writes a question that calls a built-in function with plain values, mostly numbers.
+fn plain_builtin(random: &mut Random, bytes: &mut Vec<u8>) {
+    let function = random.below(LAST_CALLED + 1);
+    bytes.extend([BUILTIN, function as u8]);
+    let largest = random.pick(&[2, 5, 12, 12, 30, 100]);
+    for _ in 0..builtins()[function].arity {
+        bytes.extend(vec![SUCC; random.between(0, largest)]);
+        bytes.push(match random.chance(85) {
+            true => ZERO,
+            false => random.pick(&[TRUE, FALSE]),
+        });
+    }
 }
 
 /// Writes a question that calls a declared function, mostly with plain values.
@@ -459,19 +477,23 @@ fn term(
         }
         44..=61 if words >= 3 => {
             let number = match sort {
-                Sort::Number => random.pick(&[0, 0, 1]),
-                Sort::Truth => random.pick(&[3, 4, 5]),
+                Sort::Number => random.pick(&[0, 0, 0, 1, 9, 10]),
+                Sort::Truth => random.pick(&[3, 4, 5, 6, 7, 8]),
             };
             bytes.extend([BUILTIN, number]);
-            let arity = builtins()[usize::from(number)].arity;
-            // = is of truth values too
+            // = and <> are of truth values too
             let parts_sort = match number {
-                5 => random.pick(&[Sort::Number, Sort::Number, Sort::Truth]),
+                5 | 8 => random.pick(&[Sort::Number, Sort::Number, Sort::Truth]),
                 _ => Sort::Number,
             };
-            for part in random.split(words - 1, arity) {
-                term(random, shape, scope, parts_sort, part, bytes);
+            let mut parts = random.split(words - 1, 2);
+            term(random, shape, scope, parts_sort, parts[0], bytes);
+            // div and mod by 0 are stuck: now and then is enough
+            if [9, 10].contains(&number) && parts[1] > 1 && random.chance(80) {
+                bytes.push(SUCC);
+                parts[1] -= 1;
             }
+            term(random, shape, scope, parts_sort, parts[1], bytes);
         }
         62..=89 if call(random, shape, scope, sort, words, bytes) => {}
         90..=91 => {
@@ -618,18 +640,19 @@ fn damage(random: &mut Random, bytes: &mut Vec<u8>) {
     let byte = match random.below(4) {
         0 => random.byte(),
         1 => random.pick(&KINDS),
-        _ => random.below(10) as u8,
+        _ => random.below(16) as u8,
     };
     if bytes.is_empty() {
         bytes.push(byte);
         return;
     }
     let at = random.below(bytes.len());
-    if random.chance(12) {
-        // Another number for some variable, or what looks like one.
-        let next = (at..bytes.len() - 1).find(|i| bytes[*i] == VARIABLE);
+    if random.chance(24) {
+        // Another number for some variable or built-in, or what looks like one.
+        let (kind, numbers) = random.pick(&[(VARIABLE, 9), (BUILTIN, 16)]);
+        let next = (at..bytes.len() - 1).find(|i| bytes[*i] == kind);
         if let Some(i) = next {
-            bytes[i + 1] = random.below(9) as u8;
+            bytes[i + 1] = random.below(numbers) as u8;
             return;
         }
     }
@@ -699,7 +722,7 @@ fn loose(random: &mut Random, count: usize, bytes: &mut Vec<u8>) {
         for _ in 0..body_length(kind).unwrap_or(0) {
             let number = match random.below(12) {
                 0 => random.byte(),
-                1 => random.below(10) as u8,
+                1 => random.below(16) as u8,
                 _ => random.below(4) as u8,
             };
             bytes.push(number);
@@ -782,7 +805,7 @@ fn around_longest(random: &mut Random, line: Vec<u8>) -> Vec<u8> {
 
 fn ceiling(random: &mut Random) -> (Vec<u8>, Vec<u8>) {
     let past = random.below(2);
-    match random.below(15) {
+    match random.below(16) {
         0 => program_bytes_ceiling(random),
         1 => exceptions_ceiling(random, past),
         2 => functions_ceiling(random, past),
@@ -819,6 +842,7 @@ fn ceiling(random: &mut Random) -> (Vec<u8>, Vec<u8>) {
         }
         12 => growing(random),
         13 => lost_rules(random),
+        14 => builtin_ceiling(random, past),
         _ => {
             // A question that never comes to its end.
             let shape = small_shape(random);
@@ -1017,6 +1041,22 @@ fn variable_ceiling(random: &mut Random, past: usize) -> (Vec<u8>, Vec<u8>) {
     (program, question)
 }
 
+/// The last built-in function that may be called, or one past it, the helper above
+/// all: on a left side, on a right side or in the question.
+fn builtin_ceiling(random: &mut Random, past: usize) -> (Vec<u8>, Vec<u8>) {
+    let last = LAST_CALLED as u8;
+    let number = match past {
+        0 => last,
+        _ => random.pick(&[last + 1, last + 1, last + 1, 12, 13, 14, 15, 16]),
+    };
+    let variable = vec![VARIABLE, 0];
+    let mut parts = [variable.clone(), variable, vec![CALL, 0, SUCC, ZERO]];
+    parts[random.below(3)] = vec![BUILTIN, number, SUCC, SUCC, ZERO, SUCC, ZERO];
+    let [left, right, question] = parts;
+    let program = [&[FUNCTION, 0, 1, RULE, 0], &left[..], &right, &[END]].concat();
+    (program, question)
+}
+
 fn left_ceiling(random: &mut Random, past: usize) -> (Vec<u8>, Vec<u8>) {
     let mut shape = small_shape(random);
     let arity = random.between(1, MAX_ARITY);
@@ -1117,7 +1157,7 @@ fn left_side_nodes(random: &mut Random) -> (Vec<u8>, Vec<u8>) {
     program.push(kind);
     for _ in 0..body_length(kind).unwrap_or(0) {
         let last = LAST_CALLED as u8;
-        program.push(random.pick(&[0, 1, 2, last, last + 1, 200]));
+        program.push(random.pick(&[0, 1, 2, last, last + 1, last + 2, 200]));
     }
     program.extend([VARIABLE, 0, VARIABLE, 0, ZERO, ZERO, END]);
     if random.chance(25) {

@@ -115,8 +115,9 @@ pub struct Answer {
     pub steps: u64,
 }
 
-/// The last built-in function that a program or a question may call.
-pub const LAST_CALLED: usize = 5;
+/// The last built-in function that a program or a question may call. The one
+/// after it, -, is for the rules of div and mod alone.
+pub const LAST_CALLED: usize = 10;
 
 /// The built-in functions with their rules. Variables are numbered by
 /// first appearance on the left. A built-in's arity is that of its rules.
@@ -131,6 +132,15 @@ pub fn builtins() -> &'static [Function] {
         let call = |function, first, second| Term::Call {
             function,
             arguments: vec![first, second],
+        };
+        let not = |part| Term::Call {
+            function: 2,
+            arguments: vec![part],
+        };
+        let either = |condition, yes, no| Term::If {
+            condition: Box::new(condition),
+            yes: Box::new(yes),
+            no: Box::new(no),
         };
         let rule = |left, right| Rule {
             place: 0,
@@ -172,6 +182,35 @@ pub fn builtins() -> &'static [Function] {
                 rule(vec![yes(), no()], no()),
                 rule(vec![no(), yes()], no()),
                 rule(vec![no(), no()], yes()),
+            ],
+            // 6: >=
+            vec![rule(vec![v(0), v(1)], call(3, v(1), v(0)))],
+            // 7: >
+            vec![rule(vec![v(0), v(1)], call(4, v(1), v(0)))],
+            // 8: <>
+            vec![rule(vec![v(0), v(1)], not(call(5, v(0), v(1))))],
+            // 9: div
+            vec![rule(
+                vec![v(0), succ(v(1))],
+                either(
+                    call(4, v(0), succ(v(1))),
+                    zero(),
+                    succ(call(9, call(11, v(0), succ(v(1))), succ(v(1)))),
+                ),
+            )],
+            // 10: mod
+            vec![rule(
+                vec![v(0), succ(v(1))],
+                either(
+                    call(4, v(0), succ(v(1))),
+                    v(0),
+                    call(10, call(11, v(0), succ(v(1))), succ(v(1))),
+                ),
+            )],
+            // 11: -
+            vec![
+                rule(vec![v(0), zero()], v(0)),
+                rule(vec![succ(v(0)), succ(v(1))], call(11, v(0), v(1))),
             ],
         ];
         let with_arity = |rules: Vec<Rule>| Function {

@@ -262,6 +262,7 @@ fn the_standing_list_is_the_table_of_the_code() {
         .map(|word| word.trim().parse().unwrap())
         .collect();
     assert_eq!(list, standing_list());
+    assert_eq!((rules_of(&list).len(), list.len()), (74, 649));
 }
 
 #[test]

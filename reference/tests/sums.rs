@@ -1,5 +1,5 @@
 //! Document 01's sums checked by hand, its figures for a call without end, its
-//! program's example, and the level counts.
+//! program's example, the level counts, and the built-ins on small values.
 
 use reference::calls;
 use reference::checker::Refusal;
@@ -34,6 +34,15 @@ fn rewrite(program: &str, question: &str, steps: u64, room: u64) -> Result<Strin
     .map(answer_text)
 }
 
+/// Both engines give this answer.
+fn both(program: &str, question: &str, answer: &str) {
+    let expected = Ok(answer.to_string());
+    let evaluated = evaluate(program, question, STEPS, LEVELS);
+    assert_eq!(evaluated, expected, "{question}");
+    let rewritten = rewrite(program, question, STEPS, ROOM);
+    assert_eq!(rewritten, expected, "{question}");
+}
+
 const A_AND_B: &str = "0100 0101 04";
 const FIGURE_2: &str = "0100 0101 020001 0300 1400 1600 1800 1500 1900 10 11 10 04";
 const FIGURE_5: &str = "0100 0101 020001 0300 1400 1600 17 12 1500 1900 1400 11 10 04";
@@ -60,9 +69,78 @@ fn the_table_of_sums() {
         (FIGURE_8, "1900 11 10", "value 1 zero 47"),
     ];
     for (program, question, answer) in table {
-        let expected = Ok(answer.to_string());
-        assert_eq!(evaluate(program, question, STEPS, LEVELS), expected);
-        assert_eq!(rewrite(program, question, STEPS, ROOM), expected);
+        both(program, question, answer);
+    }
+}
+
+/// A built-in called on two numbers.
+fn on_numbers(builtin: usize, m: usize, n: usize) -> String {
+    let number = |n| "11".repeat(n) + "10";
+    format!("18{builtin:02x} {} {}", number(m), number(n))
+}
+
+#[test]
+fn comparing_numbers() {
+    for (m, n) in (0..7).flat_map(|m| (0..7).map(move |n| (m, n))) {
+        // <=, < and = take one call for each succ that both have, and one.
+        let compared = (m.min(n) + 1) * (m.max(n) + 8);
+        // >=, > and <> are a call more, which pays for both numbers once.
+        let call = m + n + 8;
+        let not = 5;
+        for (builtin, truth, steps) in [
+            (3, m <= n, compared),
+            (4, m < n, compared),
+            (5, m == n, compared),
+            (6, m >= n, call + compared),
+            (7, m > n, call + compared),
+            (8, m != n, call + compared + not),
+        ] {
+            let answer = format!("value 0 {truth} {steps}");
+            both("04", &on_numbers(builtin, m, n), &answer);
+        }
+    }
+}
+
+#[test]
+fn dividing_numbers() {
+    for (m, d) in (0..14).flat_map(|m| (0..6).map(move |d| (m, d))) {
+        if d == 0 {
+            // The call and its arguments are paid, and no rule fits.
+            let answer = format!("stuck 0 - {}", m + 7);
+            both("04", &on_numbers(9, m, 0), &answer);
+            both("04", &on_numbers(10, m, 0), &answer);
+            continue;
+        }
+        let (q, r) = (m / d, m % d);
+        let taken = q * (17 * d + 25) + (2 * d + 3) * (q * r + d * q * (q + 1) / 2);
+        let steps = taken + (r + d + 8) + (r + 1) * (d + 8) + 1;
+        let div = format!("value {q} zero {steps}");
+        both("04", &on_numbers(9, m, d), &div);
+        let modulo = format!("value {r} zero {steps}");
+        both("04", &on_numbers(10, m, d), &modulo);
+    }
+}
+
+#[test]
+fn on_what_is_no_number() {
+    let table = [
+        // <=(0,x) is True whatever x is, and <(x,0) is False
+        ("1806 12 10", "value 0 true 16"),
+        ("1806 10 12", "stuck 0 - 15"),
+        ("1807 10 12", "value 0 false 16"),
+        ("1807 12 10", "stuck 0 - 15"),
+        ("1808 12 13", "value 0 true 21"),
+        ("1808 13 13", "value 0 false 21"),
+        ("1808 10 12", "stuck 0 - 17"),
+        ("1808 11 10 11 12", "stuck 0 - 29"),
+        ("1809 12 11 10", "stuck 0 - 17"),
+        ("180a 12 10", "stuck 0 - 7"),
+        ("180a 10 11 12", "value 0 zero 19"),
+        ("1809 10 1500", "exception 0 - 8"),
+        ("180a 1501 1500", "exception 1 - 5"),
+    ];
+    for (question, answer) in table {
+        both(A_AND_B, question, answer);
     }
 }
 

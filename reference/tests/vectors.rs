@@ -3,7 +3,8 @@
 //! PUFFINEST_VECTORS names; without it, the repository's stored cases.
 
 use reference::calls;
-use reference::checker::{check_program, check_question, FUNCTION};
+use reference::checker::{check_program, check_question, BUILTIN, FUNCTION};
+use reference::language::LAST_CALLED;
 use reference::lines::{answer_line, answer_text, from_hex, parse_case, Case};
 use reference::rewriter::{self, Rules};
 use reference::translator::{own_list, term_words};
@@ -72,7 +73,7 @@ fn cases_and_answers() {
     let mut tested = 0;
     for (i, (case, answer)) in cases().iter().enumerate() {
         let ours = answer_line(case.as_bytes());
-        if !is_seventeen(case, &ours, answer) {
+        if !is_seventeen(case, &ours, answer) && !is_later_builtin(case, answer) {
             assert_eq!(ours, *answer, "line {}", i + 1);
             tested += 1;
         }
@@ -94,6 +95,23 @@ fn is_seventeen(case: &str, ours: &str, answer: &str) -> bool {
         _ => false,
     };
     vectors("answers.txt").is_some() && comes_later && program[place] == FUNCTION
+}
+
+/// Document 01's built-ins end with 5. There a call of one of those that came since is
+/// refused by 4.
+fn is_later_builtin(case: &str, answer: &str) -> bool {
+    let ["refused", about, "4", place] = answer.split(' ').collect::<Vec<_>>()[..] else {
+        return false;
+    };
+    let place: usize = place.parse().unwrap();
+    let case = parse_case(case.as_bytes()).unwrap();
+    let bytes = match about {
+        "program" => case.program,
+        _ => case.question,
+    };
+    let later = 6..=LAST_CALLED;
+    let called = bytes[place] == BUILTIN && later.contains(&usize::from(bytes[place + 1]));
+    vectors("answers.txt").is_some() && called
 }
 
 /// What the evaluator's call says and what the rewriter's says.

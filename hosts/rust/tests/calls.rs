@@ -82,6 +82,9 @@ fn each_ending() {
     assert_eq!(both("13", 9, 9, 9), same("value 0 false 0"));
     assert_eq!(both("11 1500", 9, 9, 9), same("exception 0 - 2"));
     assert_eq!(both("11 17 10 10 10", 9, 9, 9), same("stuck 1 - 0"));
+    // 1 div 1, and 1 div 0
+    assert_eq!(both("1809 1110 1110", 99, 20, 50), same("value 1 zero 66"));
+    assert_eq!(both("1809 1110 10", 99, 20, 50), same("stuck 0 - 8"));
     assert_eq!(both("1900", 9, 9, 9), same("out - - 9"));
     let deep_and_big = ("deep - - 6".to_string(), "big - - 8".to_string());
     assert_eq!(both("1900", 100, 6, 4), deep_and_big);
@@ -92,12 +95,13 @@ fn refused() -> Vec<(Vec<u8>, Vec<u8>, &'static str)> {
     let long_right = ["020000 0300", &"11".repeat(128), "10 04"].concat();
     let many: String = (0..17).map(|e| format!("01{e:02x}")).collect();
     let lost = "0100 020000 020100 0300 10 0300 10 04 04"; // besides 10 and 11
-    let texts: [(&str, &str, &str); 18] = [
+    let texts: [(&str, &str, &str); 20] = [
         (&"04".repeat(8_193), "10", "refused program 1 0"),
         ("", "10", "refused program 2 0"),
         ("0100 02", "10", "refused program 2 2"),
         ("05", "10", "refused program 3 0"),
         ("0101 04", "10", "refused program 4 0"),
+        ("020001 0300 180b 10 10 10 04", "10", "refused program 4 5"),
         ("0100 020001 0300 1500 10 04", "10", "refused program 5 7"),
         ("020002 0300 1400 1400 10 04", "10", "refused program 6 7"),
         ("020001 0300 1400 1401 04", "10", "refused program 7 7"),
@@ -109,6 +113,7 @@ fn refused() -> Vec<(Vec<u8>, Vec<u8>, &'static str)> {
         (lost, "10", "refused program 17 5"),
         ("020000 04", "11", "refused program 17 0"),
         ("04", "11", "refused question 2 1"),
+        ("04", "180b 10 10", "refused question 4 0"),
         ("04", "1407", "refused question 7 0"),
         ("04", "10 10", "refused question 11 1"),
     ];
