@@ -1,6 +1,8 @@
 /* Puffinest: the hosts' door. Link with the archive that `rt staticlib bridge` writes (x86-64).
  *
- * Both calls take any bytes at all; the caller need have checked nothing. A report has 7 words:
+ * Both calls take any bytes at all; the caller need have checked nothing. How a program and a question are written, and what each built-in
+ * costs in steps and levels, is in docs/FORMAT.md. Either may call the built-ins 0 to 10: +, *, not, <=, <, =, >=, >, <>, div, mod; any other
+ * number is refusal 4. div and mod by 0 are stuck. A report has 7 words:
  *
  *   0  refusal number: 1 to 13, or 17 for a declared function without a rule; 0 where nothing is refused
  *   1  what the refusal is about: 0 nothing, 1 the program, 2 the question

@@ -14,7 +14,7 @@ use Rattle.theory.specs.Endings.{Ending, value, stuck, tooDeep}
 use Rattle.theory.specs.Cost.{Cost, paying, payingArgs, vals, argRow, callRow, eval}
 use Rattle.theory.specs.Arithmetic.{num, flag, difference, quotient, remainder}
 use Rattle.theory.specs.Encoding.{Each}
-use Rattle.theory.specs.Allowances.{Costs, Takes, callSteps, triangle, plusSteps, timesSteps, compareSteps, minusSteps, turnedSteps, differSteps, turnsSteps, divideSteps, plusLevels, timesLevels, compareLevels, turnsLevels, divideLevels, onNumbers, endingOf, RowTakes}
+use Rattle.theory.specs.Allowances.{Costs, Takes, callSteps, triangle, plusSteps, timesSteps, compareSteps, minusSteps, turnedSteps, differSteps, turnsSteps, divideSteps, plusLevels, timesLevels, compareLevels, turnsLevels, divideLevels, onNumbers, endingOf, askedLevels, RowTakes}
 use Rattle.theory.proofs.Tests.{leb-true, leb-false, le-of-leb, lt-of-leb}
 use Rattle.theory.proofs.ExactCost.{costs-so, takes-so, constant-costs, variable-costs, succ-costs, if-costs, some-level, rule-takes, none-takes}
 
@@ -354,6 +354,14 @@ module _ (k : ℕ) (fs : List Fun) where
 pub quotient-and-remainder : (m n : ℕ) → (m ≡ m / suc n * suc n + m % suc n) × (m % suc n < suc n)
 quotient-and-remainder m n = (sym (div-add-mod' m (suc n)), mod-lt m (omega arith))
 
--- Document 01's starred sums +(0,0) and +(succ(0),0); 7 by 2, with the turns 7, 5, 3 and 1; what a division of 1,000 by 7 takes
-pub computed : (plusSteps 0 0 ≡ 8) × (plusSteps 1 0 ≡ 17) × (timesSteps 2 3 ≡ 124) × (divideSteps 7 2 ≡ 314) × (divideSteps 1000 7 ≡ 1243266) × (divideLevels 3 1000 7 ≡ 435)
-computed = (refl, refl, refl, refl, refl, refl)
+-- Document 01's starred sums +(0,0) and +(succ(0),0); then the examples of docs/FORMAT.md: a question's steps and levels, what 1,000 by 7 takes, and
+-- the largest number that 1,000,000 steps divide by 7
+pub computed : (plusSteps 0 0 ≡ 8) × (plusSteps 1 0 ≡ 17)
+    × (plusSteps 100 100 ≡ 15958) × (askedLevels 100 100 (plusLevels 100 100) ≡ 202)
+    × (timesSteps 10 10 ≡ 6633) × (askedLevels 10 10 (timesLevels 10 10) ≡ 41)
+    × (compareSteps 200 300 ≡ 61908) × (askedLevels 200 300 (compareLevels 200 300) ≡ 302)
+    × (divideSteps 100 10 ≡ 14637) × (askedLevels 100 10 (divideLevels 3 100 10) ≡ 102)
+    × (divideSteps 300 100 ≡ 127192) × (askedLevels 300 100 (divideLevels 3 300 100) ≡ 302)
+    × (divideSteps 1000 7 ≡ 1243266) × (divideLevels 3 1000 7 ≡ 435)
+    × (divideSteps 895 7 ≡ 998601) × (divideSteps 896 7 ≡ 1000927)
+computed = (refl, refl, refl, refl, refl, refl, refl, refl, refl, refl, refl, refl, refl, refl, refl, refl)
