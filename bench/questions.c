@@ -2,14 +2,14 @@
  *     ROW PROGRAM QUESTION STEPS LEVELS ROOM OWN FIRST SECOND
  * Lines of one row stand together and are timed together. A row ROW/0 is the question 0 to the same book: what a call costs besides
  * its question. `questions table` gives the table's rows, `questions terms` those of growing terms, `questions rules` those of
- * growing rule books. */
+ * growing rule books, `questions standing` those of built-ins along the standing list. */
 #include <stdint.h>
 #include <stdio.h>
 #include <stdlib.h>
 #include <string.h>
 
 enum { ZERO = 0x10, SUCC, TRUE, FALSE, VARIABLE, RAISE, HANDLE, IF, BUILTIN, CALL };
-enum { PLUS, TIMES, NOT, MOST, LESS, EQUAL };
+enum { PLUS, TIMES, NOT, MOST, LESS, EQUAL, LEAST, MORE, DIFFERENT, DIV, MOD };
 
 /* The string that is being written: the program, then the question. */
 static char text[65536];
@@ -202,10 +202,61 @@ static void growing_books(void) {
     }
 }
 
+/* The question <=(200,300). */
+static void hundreds(void) {
+    begin(), end();
+    two(BUILTIN, MOST), number(200), number(300);
+}
+
+/* A fee by tiers, fee(300): fee(w) -> if(<=(w,hundred), 1, succ(div(w,hundred))), hundred -> 100. */
+static void tiers(void) {
+    enum { FEE, HUNDRED };
+    begin();
+    function(FEE, 1), function(HUNDRED, 0);
+    rule(FEE), var(0), byte(IF), two(BUILTIN, MOST), var(0), call(HUNDRED), number(1);
+    byte(SUCC), two(BUILTIN, DIV), var(0), call(HUNDRED);
+    rule(HUNDRED), number(100);
+    end();
+    call(FEE), number(300);
+}
+
+/* 1,024 calls of a built-in on 1 and 1: four(x,y,z,u) -> 0, loop 1 asks four of the built-in, loop i four of loop i-1. */
+static void builtin_book(unsigned builtin) {
+    enum { FOUR, LOOPS = 5 };
+    begin();
+    function(FOUR, 4);
+    for (unsigned f = 1; f <= LOOPS; f++)
+        function(f, 0);
+    rule(FOUR), var(0), var(1), var(2), var(3), number(0);
+    for (unsigned f = 1; f <= LOOPS; f++) {
+        rule(f), call(FOUR);
+        for (unsigned i = 0; i < 4; i++)
+            if (f == 1)
+                two(BUILTIN, builtin), number(1), number(1);
+            else
+                call(f - 1);
+    }
+    end();
+    call(LOOPS);
+}
+
+/* Rows by the built-in's name, in the order of the standing list. `*`, a pattern to the shell, and `not`, of one argument, are left out. */
+static void standing(void) {
+    static const struct {
+        const char *row;
+        unsigned builtin;
+    } rows[] = {{"+", PLUS},  {"<=", MOST},      {"<", LESS},  {"=", EQUAL}, {">=", LEAST},
+                {">", MORE}, {"<>", DIFFERENT}, {"div", DIV}, {"mod", MOD}};
+    for (unsigned i = 0; i < sizeof rows / sizeof rows[0]; i++)
+        builtin_book(rows[i].builtin), lines(rows[i].row);
+}
+
 static void table(void) {
     figure8(), lines("f(6)");
     fees(16 + 24 * 20 + 576 * 14), lines("fees");
     largest_book(), lines("largest");
+    hundreds(), lines("<=");
+    tiers(), lines("tiers");
     for (unsigned n = 0; n < 10000; n++)
         fees(n), line("month");
 }
@@ -218,7 +269,9 @@ int main(int argc, char **argv) {
         growing_terms();
     else if (strcmp(what, "rules") == 0)
         growing_books();
+    else if (strcmp(what, "standing") == 0)
+        standing();
     else
-        return fputs("usage: questions table | terms | rules\n", stderr), 2;
+        return fputs("usage: questions table | terms | rules | standing\n", stderr), 2;
     return 0;
 }

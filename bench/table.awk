@@ -1,4 +1,4 @@
-# Prints the figures of one part (-v part=table, terms or rules) as a table. A line of figures: ROW ENGINE ENDING STEPS SECONDS STACK.
+# Prints the figures of one part (-v part=table, terms, rules or standing) as a table. A line of figures: ROW ENGINE ENDING STEPS SECONDS STACK.
 # reference=no: it was not run, and what was run ran under an emulator; maude empty: it was not run either.
 {
     if (!($1 in seen) && $1 !~ /\/0$/) { seen[$1] = 1; rows[++n] = $1 }
@@ -43,7 +43,8 @@ function table_line(row, engine, says,    r, call, fixed, ratio) {
 function table(    i) {
     print "Steps per second on the same questions."
     print "  f(6): figure 8. fees: a fee book with tiers, handlers and raises. month: 10,000 different questions to it, one call each."
-    print "  largest: 64 rules in 8,161 bytes, the last function asked. words: the largest term on the way."
+    print "  largest: 64 rules in 8,161 bytes, the last function asked. <=: of 200 and 300. tiers: a fee of 300 by tiers of 100, with <="
+    print "  and div. words: the largest term on the way."
     print "  Ours and the reference: cpu time of whole public calls, which read, check and translate the book each time; the median of"
     print "  three rounds. `besides` is what the question 0 to the same book costs, `net` the ratio to Maude without that."
     print "  Maude: the cpu time that it reports for rewriting (set show timing on), without its start, the book and the parsing; each"
@@ -74,16 +75,28 @@ function terms(    i, r, form, copy) {
     }
 }
 
-function rules(    i, r, form) {
-    print "A step by the number of rules in the book, in ns: one function is asked, the other rules are those of functions before it."
+# What a row's steps and its call cost: the parts `rules` and `standing`.
+function step_rows(head,    i, r, form) {
     print "And what the public call costs besides its question, in us."
-    form = "%-6s %8s %10s %10s %12s %12s\n"
-    printf form, "rules", "steps", "evaluator", "rewriter", "ev. besides", "rw. besides"
+    form = "%-8s %8s %10s %10s %12s %12s\n"
+    printf form, head, "steps", "evaluator", "rewriter", "ev. besides", "rw. besides"
     for (i = 1; i <= n; i++) {
         r = rows[i]
         printf form, r, steps[r, "rewriter"], step_ns(r, "evaluator"), step_ns(r, "rewriter"),
             microseconds(besides(r, "evaluator")), microseconds(besides(r, "rewriter"))
     }
+}
+
+function rules() {
+    print "A step by the number of rules in the book, in ns: one function is asked, the other rules are those of functions before it."
+    step_rows("rules")
+}
+
+function standing() {
+    print "A step by the built-in that is called, in ns, each 1,024 times on 1 and 1; in the order of the standing list."
+    print "  >= and > are one call more, of the same kinds of step as <= and <, to which they come: where finding a rule does not depend"
+    print "  on how many stand before it, a step of theirs takes as long. div and mod make other kinds of step too."
+    step_rows("built-in")
 }
 
 END {
@@ -92,5 +105,6 @@ END {
     if (part == "table") table()
     if (part == "terms") terms()
     if (part == "rules") rules()
+    if (part == "standing") standing()
     print ""
 }
