@@ -10,13 +10,12 @@ use lib.Dec.{eqb, leb, ltb, leb·zero, leb·suc-zero, leb·suc-suc, eqb·zero-su
 use Rattle.theory.specs.Syntax.{Base, zeroB, trueB, falseB, base, height, Term, const, succ, call, tnil, tcons, Fun, Program, Bindings, bindValue, nothingBound, Found, chosen, pick}
 use Rattle.theory.specs.Builtins.{program, call2, x, y}
 use Rattle.theory.specs.Evaluation.{normal, other}
-use Rattle.theory.specs.Endings.{Ending, value, stuck, tooDeep}
-use Rattle.theory.specs.Cost.{Cost, paying, payingArgs, vals, argRow, callRow, eval}
+use Rattle.theory.specs.Endings.{Ending, value, stuck}
 use Rattle.theory.specs.Arithmetic.{num, flag, difference, quotient, remainder}
 use Rattle.theory.specs.Encoding.{Each}
 use Rattle.theory.specs.Allowances.{Costs, Takes, callSteps, triangle, plusSteps, timesSteps, compareSteps, minusSteps, turnedSteps, differSteps, turnsSteps, divideSteps, plusLevels, timesLevels, compareLevels, turnsLevels, divideLevels, onNumbers, endingOf, askedLevels, RowTakes}
 use Rattle.theory.proofs.Tests.{leb-true, leb-false, le-of-leb, lt-of-leb}
-use Rattle.theory.proofs.ExactCost.{costs-so, takes-so, constant-costs, variable-costs, succ-costs, if-costs, some-level, rule-takes, none-takes}
+use Rattle.theory.proofs.ExactCost.{costs-so, takes-so, constant-costs, variable-costs, succ-costs, if-costs, none-cost, one-more-costs, rule-costs, some-level, rule-takes, none-takes}
 
 -- THE NUMBERS, from one call to the next
 product-next : (p q : ℕ) → suc p * suc q ≡ p * q + (p + q + 1)
@@ -225,27 +224,12 @@ module _ (k : ℕ) (fs : List Fun) where
       by-rule 7 m n refl (less-takes n m .called (variable-costs P 1) (variable-costs P 0)) (omega arith) refl (let e = compare-turned m n in omega (arith, e))
 
   pub not-costs : {θ : Bindings} {t : Term} {l c : ℕ} (b : Bool) → Costs P θ t l (value (flag b)) c → Costs P θ (call 2 (tcons t tnil)) (1 + l) (value (flag (not b))) (c + 5)
-  unfolding eval
-  not-costs {θ} {t} {l} {c} b h = record { ends = ends (some-level P h) b h; deep = deep }
-    where
-      ends : 1 ≤ l → (b : Bool) → Costs P θ t l (value (flag b)) c → (L : ℕ) → 1 + l ≤ L → eval P L θ (call 2 (tcons t tnil)) ≡ paying (value (flag (not b))) (c + 5)
-      ends s b h zero g = absurd (omega (arith, g))
-      ends s b h (suc zero) g = absurd (omega (arith, g, s))
-      ends s true h (suc (suc L)) g =
-          ap (λ (r : Cost). let s = argRow (λ (u : Unit {0}). payingArgs (vals []) 0) (r .ending) (r .paid) in callRow (eval P (suc L)) (P .fun 2 .defs) (s .args) (s .argsPaid))
-          (h .ends (suc L) (omega (arith, g)))
-          ∙ ap (paying (value (flag false))) (omega arith)
-      ends s false h (suc (suc L)) g =
-          ap (λ (r : Cost). let s = argRow (λ (u : Unit {0}). payingArgs (vals []) 0) (r .ending) (r .paid) in callRow (eval P (suc L)) (P .fun 2 .defs) (s .args) (s .argsPaid))
-          (h .ends (suc L) (omega (arith, g)))
-          ∙ ap (paying (value (flag true))) (omega arith)
-
-      deep : (L : ℕ) → L < 1 + l → eval P L θ (call 2 (tcons t tnil)) .ending ≡ tooDeep
-      deep zero g = refl
-      deep (suc L) g =
-          ap (λ (m : Ending).
-          let s = argRow (λ (u : Unit {0}). payingArgs (vals []) 0) m (eval P L θ t .paid) in callRow (eval P L) (P .fun 2 .defs) (s .args) (s .argsPaid) .ending)
-          (h .deep L (omega (arith, g)))
+  not-costs true h =
+      let some = some-level P h in
+      costs-so P (omega (arith, some)) refl (omega arith) (rule-costs P 2 (one-more-costs P h (none-cost P)) refl (constant-costs P falseB))
+  not-costs false h =
+      let some = some-level P h in
+      costs-so P (omega (arith, some)) refl (omega arith) (rule-costs P 2 (one-more-costs P h (none-cost P)) refl (constant-costs P trueB))
 
   pub differs-takes : (m n : ℕ) → Takes P 8 (num m) (num n) (compareLevels m n + 2) (value (flag (not (eqb m n)))) (differSteps m n)
   differs-takes m n = by-rule 8 m n refl (not-costs (eqb m n) (equal-takes m n .called (variable-costs P 0) (variable-costs P 1))) (omega arith) refl (omega arith)

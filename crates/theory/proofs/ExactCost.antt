@@ -1,17 +1,16 @@
 -- WHAT A TERM TAKES, EXACTLY, from what its parts take: the levels with which it ends and without which it is too deep, and the steps. Every term
 -- that ends takes some.
 use Prim.Native.Nat.{ℕ, zero, suc, _+_, max, _≤_, _<_}
-use mathlib.Core.Path.{_≡_, refl, sym, ap, ap₂, _∙_, subst}
+use mathlib.Core.Path.{_≡_, refl, sym, ap, _∙_, subst}
 use mathlib.Core.Logic.{_≢_, _⊎_, inl, inr}
 use mathlib.Core.Bool.{Bool, true, false, false≢true}
-use mathlib.Core.List.{[], _∷_}
-use mathlib.Core.Option.{Option, none, some}
+use mathlib.Core.List.{List, [], _∷_}
+use mathlib.Core.Option.{none, some}
 use native.Mathlib.Omega.{arith}
 use lib.Dec.{leb}
-use Rattle.theory.specs.Syntax.{Base, Val, base, up, height, Term, const, succ, tvar, cond, tnil, tcons, Program, Bindings, nothingBound, Found, chosen, pick}
-use Rattle.theory.specs.Builtins.{call2}
+use Rattle.theory.specs.Syntax.{Base, Val, base, up, height, Term, const, succ, tvar, cond, call, Terms, tnil, tcons, Program, Bindings, nothingBound, Found, chosen, pick}
 use Rattle.theory.specs.Endings.{Ending, value, raised, stuck, tooDeep, is, outOfSteps, says, Final}
-use Rattle.theory.specs.Cost.{Cost, paying, after, succRow, ifRow, payingArgs, vals, argRow, evalArgs, bodyRow, callRow, eval, cut, evaluator}
+use Rattle.theory.specs.Cost.{Cost, paying, after, succRow, ifRow, Args, vals, ended, ArgCost, payingArgs, consRow, argRow, evalArgs, bodyRow, callRow, eval, cut, evaluator}
 use Rattle.theory.specs.Arithmetic.{flag, written, asked}
 use Rattle.theory.specs.Allowances.{Costs, Takes, callSteps}
 use Rattle.theory.proofs.Tests.{leb-true, leb-false, le-of-leb, lt-of-leb}
@@ -107,58 +106,72 @@ module _ (P : Program) where
       deep zero h = refl
       deep (suc L) h = below L (omega (arith, h)) (enough-or-not l L)
 
-  -- A CALL OF TWO ARGUMENTS: where these have their values, the rule that fits goes on
-  module _ {θ : Bindings} {a b : Term} {la lb ca cb : ℕ} {v w : Val} (k : ℕ) (ka : Costs P θ a la (value v) ca) (kb : Costs P θ b lb (value w) cb) where
-    abbrev theCall : Term
-    theCall = call2 k a b
+  -- THE ARGUMENTS OF A CALL: their values, where each has its levels
+  pub record ArgsCost (θ : Bindings) (ts : Terms) (l : ℕ) (vs : List Val) (c : ℕ) : Type 0 where
+    pub ends : (L : ℕ) → l ≤ L → evalArgs (eval P L) θ ts ≡ payingArgs (vals vs) c
+    pub deep : (L : ℕ) → L < l → evalArgs (eval P L) θ ts .args ≡ ended tooDeep
 
-    abbrev argumentsPaid : ℕ
-    argumentsPaid = 1 + (ca + height v + 3 + (cb + height w + 3 + 0))
+  pub none-cost : {θ : Bindings} → ArgsCost θ tnil 0 [] 0
+  none-cost = record { ends = λ L h. refl; deep = λ L h. absurd (omega (arith, h)) }
 
-    called : (L : ℕ) → la ≤ L → lb ≤ L → eval P (suc L) θ theCall ≡ bodyRow (eval P L) argumentsPaid (chosen (P .fun k .defs) (v ∷ w ∷ []))
+  pub one-more-costs : {θ : Bindings} {t : Term} {ts : Terms} {l l′ c d : ℕ} {v : Val} {vs : List Val} → Costs P θ t l (value v) c → ArgsCost θ ts l′ vs d
+      → ArgsCost θ (tcons t ts) (max l l′) (v ∷ vs) (c + height v + 3 + d)
+  one-more-costs {θ} {t} {ts} {l} {l′} {c} {d} {v} {vs} first rest =
+      record {
+        ends = λ L h. has L (omega (arith, h)) ∙ ap (λ (r : ArgCost). consRow v (c + height v + 3) (r .args) (r .argsPaid)) (rest .ends L (omega (arith, h)));
+        deep = λ L h. below L h (enough-or-not l L);
+      }
+    where
+      has : (L : ℕ) → l ≤ L → evalArgs (eval P L) θ (tcons t ts) ≡ argRow (λ (u : Unit {0}). evalArgs (eval P L) θ ts) (value v) c
+      has L h = ap (λ (r : Cost). argRow (λ (u : Unit {0}). evalArgs (eval P L) θ ts) (r .ending) (r .paid)) (first .ends L h)
+
+      below : (L : ℕ) → L < max l l′ → (l ≤ L) ⊎ (L < l) → evalArgs (eval P L) θ (tcons t ts) .args ≡ ended tooDeep
+      below L h (inl k) =
+          ap (λ (r : ArgCost). r .args) (has L k)
+          ∙ ap (λ (a : Args). consRow v (c + height v + 3) a (evalArgs (eval P L) θ ts .argsPaid) .args) (rest .deep L (omega (arith, h, k)))
+      below L h (inr k) = ap (λ (m : Ending). argRow (λ (u : Unit {0}). evalArgs (eval P L) θ ts) m (eval P L θ t .paid) .args) (first .deep L k)
+
+  -- A CALL: its arguments, then the right side of the rule that fits; where none fits, stuck after the charges of the call
+  module _ {θ : Bindings} {ts : Terms} {l c : ℕ} {vs : List Val} (k : ℕ) (arguments : ArgsCost θ ts l vs c) where
+    called : (L : ℕ) → l ≤ L → eval P (suc L) θ (call k ts) ≡ bodyRow (eval P L) (1 + c) (chosen (P .fun k .defs) vs)
     unfolding eval
-    called L ha hb =
-        ap₂ (λ (r q : Cost).
-        let s = argRow (λ (u : Unit {0}). argRow (λ (u : Unit {0}). payingArgs (vals []) 0) (q .ending) (q .paid)) (r .ending) (r .paid) in
-        callRow (eval P L) (P .fun k .defs) (s .args) (s .argsPaid))
-        (ka .ends L ha) (kb .ends L hb)
+    called L h = ap (λ (r : ArgCost). callRow (eval P L) (P .fun k .defs) (r .args) (r .argsPaid)) (arguments .ends L h)
 
-    -- too deep in the first, in the second
-    first-deep : (L : ℕ) → L < la → eval P (suc L) θ theCall .ending ≡ tooDeep
+    not-called : (L : ℕ) → L < l → eval P (suc L) θ (call k ts) .ending ≡ tooDeep
     unfolding eval
-    first-deep L h =
-        ap (λ (m : Ending).
-        let s = argRow (λ (u : Unit {0}). evalArgs (eval P L) θ (tcons b tnil)) m (eval P L θ a .paid) in
-        callRow (eval P L) (P .fun k .defs) (s .args) (s .argsPaid) .ending)
-        (ka .deep L h)
+    not-called L h = ap (λ (a : Args). callRow (eval P L) (P .fun k .defs) a (evalArgs (eval P L) θ ts .argsPaid) .ending) (arguments .deep L h)
 
-    second-deep : (L : ℕ) → la ≤ L → L < lb → eval P (suc L) θ theCall .ending ≡ tooDeep
+    pub rule-costs : {f : Found} {l′ d : ℕ} {m : Ending} → chosen (P .fun k .defs) vs ≡ some f → Costs P (f .bound) (f .body) l′ m d
+        → Costs P θ (call k ts) (1 + max l l′) m (1 + c + 1 + d)
     unfolding eval
-    second-deep L ha h =
-        ap₂ (λ (r : Cost) (m : Ending).
-        let s = argRow (λ (u : Unit {0}). argRow (λ (u : Unit {0}). payingArgs (vals []) 0) m (eval P L θ b .paid)) (r .ending) (r .paid) in
-        callRow (eval P L) (P .fun k .defs) (s .args) (s .argsPaid) .ending)
-        (ka .ends L ha) (kb .deep L h)
-
-    -- what the call takes, if below it so many levels are taken and so many steps paid by what is chosen
-    call-costs : (l c : ℕ) (m : Ending) → ((L : ℕ) → la ≤ L → l ≤ L → bodyRow (eval P L) argumentsPaid (chosen (P .fun k .defs) (v ∷ w ∷ [])) ≡ paying m c)
-        → ((L : ℕ) → la ≤ L → L < l → bodyRow (eval P L) argumentsPaid (chosen (P .fun k .defs) (v ∷ w ∷ [])) .ending ≡ tooDeep)
-        → Costs P θ theCall (1 + max (max la lb) l) m c
-    unfolding eval
-    call-costs l c m whole part = record { ends = ends; deep = deep }
+    rule-costs {f} {l′} {d} {m} e right = record { ends = ends; deep = deep }
       where
-        ends : (L : ℕ) → 1 + max (max la lb) l ≤ L → eval P L θ theCall ≡ paying m c
+        fits : (L : ℕ) → l ≤ L → eval P (suc L) θ (call k ts) ≡ after (1 + c + 1) (eval P L (f .bound) (f .body))
+        fits L h = called L h ∙ ap (bodyRow (eval P L) (1 + c)) e
+
+        ends : (L : ℕ) → 1 + max l l′ ≤ L → eval P L θ (call k ts) ≡ paying m (1 + c + 1 + d)
         ends zero h = absurd (omega (arith, h))
-        ends (suc L) h = called L (omega (arith, h)) (omega (arith, h)) ∙ whole L (omega (arith, h)) (omega (arith, h))
+        ends (suc L) h = fits L (omega (arith, h)) ∙ ap (after (1 + c + 1)) (right .ends L (omega (arith, h)))
 
-        below : (L : ℕ) → L < max (max la lb) l → (la ≤ L) ⊎ (L < la) → (lb ≤ L) ⊎ (L < lb) → eval P (suc L) θ theCall .ending ≡ tooDeep
-        below L h (inr x) y = first-deep L x
-        below L h (inl x) (inr y) = second-deep L x y
-        below L h (inl x) (inl y) = ap (λ (r : Cost). r .ending) (called L x y) ∙ part L x (omega (arith, h, x, y))
+        below : (L : ℕ) → L < max l l′ → (l ≤ L) ⊎ (L < l) → eval P (suc L) θ (call k ts) .ending ≡ tooDeep
+        below L h (inl g) = ap (λ (r : Cost). r .ending) (fits L g) ∙ right .deep L (omega (arith, h, g))
+        below L h (inr g) = not-called L g
 
-        deep : (L : ℕ) → L < 1 + max (max la lb) l → eval P L θ theCall .ending ≡ tooDeep
+        deep : (L : ℕ) → L < 1 + max l l′ → eval P L θ (call k ts) .ending ≡ tooDeep
         deep zero h = refl
-        deep (suc L) h = below L (omega (arith, h)) (enough-or-not la L) (enough-or-not lb L)
+        deep (suc L) h = below L (omega (arith, h)) (enough-or-not l L)
+
+    pub no-rule-costs : chosen (P .fun k .defs) vs ≡ none → Costs P θ (call k ts) (1 + l) (stuck 0) (1 + c)
+    unfolding eval
+    no-rule-costs e = record { ends = ends; deep = deep }
+      where
+        ends : (L : ℕ) → 1 + l ≤ L → eval P L θ (call k ts) ≡ paying (stuck 0) (1 + c)
+        ends zero h = absurd (omega (arith, h))
+        ends (suc L) h = called L (omega (arith, h)) ∙ ap (bodyRow (eval P L) (1 + c)) e
+
+        deep : (L : ℕ) → L < 1 + l → eval P L θ (call k ts) .ending ≡ tooDeep
+        deep zero h = refl
+        deep (suc L) h = not-called L (omega (arith, h))
 
   -- a term with a value takes a level at least
   pub some-level : {θ : Bindings} {t : Term} {l c : ℕ} {v : Val} → Costs P θ t l (value v) c → 1 ≤ l
@@ -169,23 +182,19 @@ module _ (P : Program) where
       go zero h = absurd (false≢true (sym (ap (λ (r : Cost). isDeep (r .ending)) (h (omega arith)))))
       go (suc l) h = omega arith
 
-  -- A BUILT-IN takes what the right side of the rule that fits takes; where none fits, it is stuck after the charges of the call
+  -- A BUILT-IN OF TWO ARGUMENTS takes what the right side takes
   pub rule-takes : {k : ℕ} {v w : Val} {f : Found} {l c : ℕ} {m : Ending} → chosen (P .fun k .defs) (v ∷ w ∷ []) ≡ some f → Costs P (f .bound) (f .body) l m c
       → Takes P k v w l m (callSteps (height v) (height w) + c)
-  rule-takes {k} {v} {w} {f} {l} {c} {m} e r = record {
-    called = λ {θ} {a} {b} {la} {lb} {ca} {cb} ka kb.
-        call-costs k ka kb l (ca + cb + (callSteps (height v) (height w) + c)) m
-        (λ L ha hl. ap (bodyRow (eval P L) _) e ∙ ap (after _) (r .ends L hl) ∙ ap (paying m) (omega arith))
-        (λ L ha hl. ap (λ (o : Option Found). bodyRow (eval P L) (argumentsPaid k ka kb) o .ending) e ∙ r .deep L hl);
-  }
+  rule-takes {k} e right =
+      record { called = λ ka kb. costs-so (omega arith) refl (omega arith) (rule-costs k (one-more-costs ka (one-more-costs kb none-cost)) e right) }
 
   pub none-takes : {k : ℕ} {v w : Val} → chosen (P .fun k .defs) (v ∷ w ∷ []) ≡ none → Takes P k v w 1 (stuck 0) (height v + height w + 7)
-  none-takes {k} {v} {w} e = record {
-    called = λ {θ} {a} {b} {la} {lb} {ca} {cb} ka kb.
-        let some = some-level ka in
-        call-costs k ka kb 1 (ca + cb + (height v + height w + 7)) (stuck 0)
-        (λ L ha hl. ap (bodyRow (eval P L) _) e ∙ ap (paying (stuck 0)) (omega arith)) (λ L ha hl. absurd (omega (arith, some, ha, hl)));
-  }
+  none-takes {k} e =
+      record {
+        called = λ ka kb.
+            let some = some-level ka in
+            costs-so (omega (arith, some)) refl (omega arith) (no-rule-costs k (one-more-costs ka (one-more-costs kb none-cost)) e);
+      }
 
   -- a value written down: no steps, and a level more than it has succ
   pub written-costs : {θ : Bindings} (v : Val) → Costs P θ (written v) (suc (height v)) (value v) 0

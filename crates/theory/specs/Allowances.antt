@@ -71,7 +71,7 @@ abbrev pub timesLevels : ℕ → ℕ → ℕ
 timesLevels zero n = 1
 timesLevels (suc m) n = 2 * suc m + max 1 (2 * n)
 
--- <=, <, = and -; with n one more >= and >, with two more <>
+-- <=, <, = and -; one more are those of >= and >, two more those of <>
 abbrev pub compareLevels : ℕ → ℕ → ℕ
 compareLevels m n = min m n + 1
 
