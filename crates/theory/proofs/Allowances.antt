@@ -158,24 +158,24 @@ module _ (k : ℕ) (fs : List Fun) where
   again i m n {e} {e′} {c} {c′} h ee ec t = by-rule i (suc m) (suc n) h (t .called (variable-costs P 0) (variable-costs P 1)) (omega arith) ee (omega (arith, ec))
 
   -- <=, < AND =
-  pub at-most-takes : (m n : ℕ) → Takes P 3 (num m) (num n) (compareLevels m n) (value (flag (leb m n))) (compareSteps m n)
+  at-most-takes : (m n : ℕ) → Takes P 3 (num m) (num n) (compareLevels m n) (value (flag (leb m n))) (compareSteps m n)
   at-most-takes zero n = by-constant 3 0 n trueB refl (omega arith) (told (leb 0 n) true (leb·zero n)) (sym (compare-zero n))
   at-most-takes (suc m) zero = by-constant 3 (suc m) 0 falseB refl (omega arith) (told (leb (suc m) 0) false (leb·suc-zero m)) (sym (compare-by-zero (suc m)))
   at-most-takes (suc m) (suc n) = again 3 m n refl (told (leb (suc m) (suc n)) (leb m n) (leb·suc-suc m n)) (sym (compare-next m n)) (at-most-takes m n)
 
-  pub less-takes : (m n : ℕ) → Takes P 4 (num m) (num n) (compareLevels m n) (value (flag (ltb m n))) (compareSteps m n)
+  less-takes : (m n : ℕ) → Takes P 4 (num m) (num n) (compareLevels m n) (value (flag (ltb m n))) (compareSteps m n)
   less-takes m zero = by-constant 4 m 0 falseB refl (omega arith) (told (ltb m 0) false (leb·suc-zero m)) (sym (compare-by-zero m))
   less-takes zero (suc n) = by-constant 4 0 (suc n) trueB refl (omega arith) (told (ltb 0 (suc n)) true (leb·suc-suc 0 n ∙ leb·zero n)) (sym (compare-zero (suc n)))
   less-takes (suc m) (suc n) = again 4 m n refl (told (ltb (suc m) (suc n)) (ltb m n) (leb·suc-suc (suc m) n)) (sym (compare-next m n)) (less-takes m n)
 
-  pub equal-takes : (m n : ℕ) → Takes P 5 (num m) (num n) (compareLevels m n) (value (flag (eqb m n))) (compareSteps m n)
+  equal-takes : (m n : ℕ) → Takes P 5 (num m) (num n) (compareLevels m n) (value (flag (eqb m n))) (compareSteps m n)
   equal-takes zero zero = by-constant 5 0 0 trueB refl refl refl refl
   equal-takes zero (suc n) = by-constant 5 0 (suc n) falseB refl (omega arith) (told (eqb 0 (suc n)) false (eqb·zero-suc n)) (sym (compare-zero (suc n)))
   equal-takes (suc m) zero = by-constant 5 (suc m) 0 falseB refl (omega arith) (told (eqb (suc m) 0) false (eqb·suc-zero m)) (sym (compare-by-zero (suc m)))
   equal-takes (suc m) (suc n) = again 5 m n refl (told (eqb (suc m) (suc n)) (eqb m n) (eqb·suc-suc m n)) (sym (compare-next m n)) (equal-takes m n)
 
   -- -
-  pub minus-takes : (m n : ℕ) → Takes P 11 (num m) (num n) (compareLevels m n) (endingOf (difference m n)) (minusSteps m n)
+  minus-takes : (m n : ℕ) → Takes P 11 (num m) (num n) (compareLevels m n) (endingOf (difference m n)) (minusSteps m n)
   minus-takes m zero =
       by-rule 11 m 0 refl (variable-costs P 0) (omega arith)
       (counted (m - 0) m (sub-zero m) ∙ sym (ap (λ (b : Bool). endingOf (pick b (normal (num (m - 0))) other)) (leb·zero m)))
@@ -198,13 +198,13 @@ module _ (k : ℕ) (fs : List Fun) where
           omega (arith, e, f)
 
   -- + AND *
-  pub plus-takes : (m n : ℕ) → Takes P 0 (num m) (num n) (plusLevels m n) (value (num (m + n))) (plusSteps m n)
+  plus-takes : (m n : ℕ) → Takes P 0 (num m) (num n) (plusLevels m n) (value (num (m + n))) (plusSteps m n)
   plus-takes zero n = by-rule 0 0 n refl (variable-costs P 0) (omega arith) (counted (0 + n) n (omega arith)) (omega arith)
   plus-takes (suc m) n =
       by-rule 0 (suc m) n refl (succ-costs P (plus-takes m n .called (variable-costs P 0) (variable-costs P 1))) (omega arith)
       (counted (suc m + n) (suc (m + n)) (omega arith)) (let e = plus-next m n in omega (arith, e))
 
-  pub times-takes : (m n : ℕ) → Takes P 1 (num m) (num n) (timesLevels m n) (value (num (m * n))) (timesSteps m n)
+  times-takes : (m n : ℕ) → Takes P 1 (num m) (num n) (timesLevels m n) (value (num (m * n))) (timesSteps m n)
   times-takes zero n = by-rule 1 0 n refl (constant-costs P zeroB) refl (counted (0 * n) 0 (omega arith)) (omega arith)
   times-takes (suc m) n =
       by-rule 1 (suc m) n refl (plus-takes n (m * n) .called (variable-costs P 1) (times-takes m n .called (variable-costs P 0) (variable-costs P 1))) (levels m)
@@ -215,11 +215,11 @@ module _ (k : ℕ) (fs : List Fun) where
       levels (suc m) = omega arith
 
   -- >=, > AND <>
-  pub at-least-takes : (m n : ℕ) → Takes P 6 (num m) (num n) (compareLevels m n + 1) (value (flag (leb n m))) (turnedSteps m n)
+  at-least-takes : (m n : ℕ) → Takes P 6 (num m) (num n) (compareLevels m n + 1) (value (flag (leb n m))) (turnedSteps m n)
   at-least-takes m n =
       by-rule 6 m n refl (at-most-takes n m .called (variable-costs P 1) (variable-costs P 0)) (omega arith) refl (let e = compare-turned m n in omega (arith, e))
 
-  pub more-takes : (m n : ℕ) → Takes P 7 (num m) (num n) (compareLevels m n + 1) (value (flag (ltb n m))) (turnedSteps m n)
+  more-takes : (m n : ℕ) → Takes P 7 (num m) (num n) (compareLevels m n + 1) (value (flag (ltb n m))) (turnedSteps m n)
   more-takes m n =
       by-rule 7 m n refl (less-takes n m .called (variable-costs P 1) (variable-costs P 0)) (omega arith) refl (let e = compare-turned m n in omega (arith, e))
 
@@ -231,7 +231,7 @@ module _ (k : ℕ) (fs : List Fun) where
       let some = some-level P h in
       costs-so P (omega (arith, some)) refl (omega arith) (rule-costs P 2 (one-more-costs P h (none-cost P)) refl (constant-costs P trueB))
 
-  pub differs-takes : (m n : ℕ) → Takes P 8 (num m) (num n) (compareLevels m n + 2) (value (flag (not (eqb m n)))) (differSteps m n)
+  differs-takes : (m n : ℕ) → Takes P 8 (num m) (num n) (compareLevels m n + 2) (value (flag (not (eqb m n)))) (differSteps m n)
   differs-takes m n = by-rule 8 m n refl (not-costs (eqb m n) (equal-takes m n .called (variable-costs P 0) (variable-costs P 1))) (omega arith) refl (omega arith)
 
   -- DIV AND MOD of m by n + 1. The parts of a right side: the test, and what is left
@@ -321,11 +321,11 @@ module _ (k : ℕ) (fs : List Fun) where
   by-zero : (i m : ℕ) → chosen (P .fun i .defs) (num m ∷ num 0 ∷ []) ≡ none → Takes P i (num m) (num 0) 1 (stuck 0) (m + 7)
   by-zero i m e = takes-so P refl refl (let h = height-num m in omega (arith, h)) (none-takes P e)
 
-  pub quotient-takes : (m n : ℕ) → Takes P 9 (num m) (num n) (divideLevels 3 m n) (endingOf (quotient m n)) (divideSteps m n)
+  quotient-takes : (m n : ℕ) → Takes P 9 (num m) (num n) (divideLevels 3 m n) (endingOf (quotient m n)) (divideSteps m n)
   quotient-takes m zero = by-zero 9 m refl
   quotient-takes m (suc n) = quotient-turns (m / suc n) m n refl
 
-  pub remainder-takes : (m n : ℕ) → Takes P 10 (num m) (num n) (divideLevels 2 m n) (endingOf (remainder m n)) (divideSteps m n)
+  remainder-takes : (m n : ℕ) → Takes P 10 (num m) (num n) (divideLevels 2 m n) (endingOf (remainder m n)) (divideSteps m n)
   remainder-takes m zero = by-zero 10 m refl
   remainder-takes m (suc n) = remainder-turns (m / suc n) m n refl
 

@@ -17,17 +17,17 @@ use Rattle.theory.specs.Bytes.{good, Declared, Book, funsOf, readProgram
 use Rattle.theory.specs.Answers.{answer}
 use Rattle.theory.specs.Demands.{Accepted, OnlyAnswers}
 use Rattle.theory.specs.Encoding.{encode, termWords, OverDeclared, Each}
-use Rattle.theory.specs.Arithmetic.{num, Gives, written, asked, Reached, equality, opposite, quotient, remainder}
-use Rattle.theory.specs.Allowances.{Costs, Takes, divideSteps, divideLevels, Row, divRow, modRow, onNumbers, endingOf, askedLevels, AnsweredWithin, RowTakes, RowGives, RowReached, RowAnswered}
+use Rattle.theory.specs.Arithmetic.{num, Gives, written, asked, Reached, equality, opposite}
+use Rattle.theory.specs.Allowances.{Costs, Takes, Row, onNumbers, endingOf, askedLevels, RowTakes, RowGives, RowReached, RowAnswered}
 use Rattle.theory.proofs.PaperEvaluation.{answered-is-paper, paper-is-answered, paper-unique}
 use Rattle.theory.proofs.AcceptedProper.{accepted-proper}
 use Rattle.theory.proofs.AcceptedExactly.{question-accepted-exactly}
 use Rattle.theory.proofs.AnsweredExactly.{evaluate-in-range}
 use Rattle.theory.proofs.PaperAnswered.{only-answers}
 use Rattle.theory.proofs.Equality.{equal-gives, differs-gives}
-use Rattle.theory.proofs.Lists.{each-map}
+use Rattle.theory.proofs.Lists.{each-map, each-both}
 use Rattle.theory.proofs.ExactCost.{costs-so, asked-costs, value-costs, costs-enough, costs-out, costs-deep}
-use Rattle.theory.proofs.Allowances.{height-num, quotient-takes, remainder-takes, table-takes}
+use Rattle.theory.proofs.Allowances.{height-num, table-takes}
 
 -- a value written as a term has this value; so a built-in gives to values written down what it gives to values
 pub written-gives : (P : Program) (θ : Bindings) (v : Val) → Ev P θ (written v) (normal v)
@@ -51,7 +51,7 @@ module _ (D : Declared) where
   number-words zero = refl
   number-words (suc n) = let e = number-words n in omega (arith, e)
 
-  pub asked-read : (k m n : ℕ) → k ≤ lastCalled → nthFun builtinFuns k .arity ≡ 2 → m + n + 3 ≤ 512
+  asked-read : (k m n : ℕ) → k ≤ lastCalled → nthFun builtinFuns k .arity ≡ 2 → m + n + 3 ≤ 512
       → readQuestion D (encode (asked k (num m) (num n))) ≡ good (asked k (num m) (num n))
   asked-read k m n h a l =
       let em = number-words m in
@@ -153,24 +153,20 @@ module _ (p : List ℕ) (s : Book) (ep : readProgram p ≡ good s) where
       each-map (RowTakes (programOf s)) (RowReached (programOf s)) onNumbers
       (λ r h m n L steps hl hs. costs-enough (programOf s) (row-costs r h m n) L steps hl hs) (table-takes e fs)
 
-  row-answered : (r : Row) → RowTakes (programOf s) r → (q : List ℕ) → RowAnswered p (s .decls) q r
-  row-answered r h q m n eq =
+  row-answered : (r : Row) → RowTakes (programOf s) r → nthFun builtinFuns (r .number) .arity ≡ 2 → RowAnswered p r
+  row-answered r h two m n may short =
+      let q = encode (asked (r .number) (num m) (num n)) in
+      let read = asked-read (s .decls) (r .number) m n may two short in
       let costs = row-costs r h m n in
-      let x : Accepted p q = record { book = s; term = asked (r .number) (num m) (num n); program-read = ep; question-read = eq } in
+      let x : Accepted p q = record { book = s; term = asked (r .number) (num m) (num n); program-read = ep; question-read = read } in
       record {
-        nothing-else = given-is-answered (r .number) (num m) (num n) (r .gives m n) (takes-gives (r .number) (num m) (num n) (r .gives m n) (h m n)) q eq;
+        nothing-else = given-is-answered (r .number) (num m) (num n) (r .gives m n) (takes-gives (r .number) (num m) (num n) (r .gives m n) (h m n)) q read;
         enough = λ steps levels i hs hl. evaluate-in-range p q steps levels x i ∙ ap answer (costs-enough (programOf s) costs levels steps hl hs);
         fewer-steps = λ steps levels i hs hl. evaluate-in-range p q steps levels x i ∙ ap answer (costs-out (programOf s) costs levels steps hl hs);
         fewer-levels = λ steps levels i hl. (_, evaluate-in-range p q steps levels x i, costs-deep (programOf s) costs levels steps hl);
       }
 
-  pub table-answered : (q : List ℕ) → Each (RowAnswered p (s .decls) q) onNumbers
-  table-answered q = each-map (RowTakes (programOf s)) (RowAnswered p (s .decls) q) onNumbers (λ r h. row-answered r h q) (table-takes e fs)
-
-  -- div and mod, where the bytes of the question are 18, 09 or 0A, and the two numbers
-  module _ (m n : ℕ) (short : m + n + 3 ≤ 512) where
-    pub quotient-answered : AnsweredWithin p (encode (asked 9 (num m) (num n))) (quotient m n) (askedLevels m n (divideLevels 3 m n)) (divideSteps m n)
-    quotient-answered = row-answered divRow (quotient-takes e fs) _ m n (asked-read (s .decls) 9 m n (omega arith) refl short)
-
-    pub remainder-answered : AnsweredWithin p (encode (asked 10 (num m) (num n))) (remainder m n) (askedLevels m n (divideLevels 2 m n)) (divideSteps m n)
-    remainder-answered = row-answered modRow (remainder-takes e fs) _ m n (asked-read (s .decls) 10 m n (omega arith) refl short)
+  pub table-answered : Each (RowAnswered p) onNumbers
+  table-answered =
+      each-both (RowTakes (programOf s)) (λ (r : Row). nthFun builtinFuns (r .number) .arity ≡ 2) (RowAnswered p) onNumbers row-answered (table-takes e fs)
+      (refl, (refl, (refl, (refl, (refl, (refl, (refl, (refl, (refl, (refl, (refl, tt)))))))))))

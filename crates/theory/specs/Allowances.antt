@@ -6,11 +6,11 @@ use mathlib.Core.Bool.{not}
 use mathlib.Core.List.{List, [], _∷_}
 use lib.Dec.{eqb, leb, ltb}
 use Rattle.theory.specs.Syntax.{Val, Term, Program, Bindings, pick}
-use Rattle.theory.specs.Builtins.{call2}
+use Rattle.theory.specs.Builtins.{call2, lastCalled}
 use Rattle.theory.specs.Evaluation.{Outcome, normal, exception, other}
 use Rattle.theory.specs.Endings.{Ending, value, raised, stuck, tooDeep, is, outOfSteps, Answer, says, Final}
 use Rattle.theory.specs.Cost.{paying, eval, evaluator}
-use Rattle.theory.specs.Bytes.{good, Declared, readQuestion}
+use Rattle.theory.specs.Encoding.{encode}
 use Rattle.theory.specs.Answers.{answer, evaluate}
 use Rattle.theory.specs.Demands.{EvaluateInRange, OnlyAnswers}
 use Rattle.theory.specs.Arithmetic.{num, flag, Gives, asked, difference, quotient, remainder}
@@ -94,12 +94,6 @@ pub record Row : Type 0 where
 abbrev row : ℕ → (ℕ → ℕ → Outcome) → (ℕ → ℕ → ℕ) → (ℕ → ℕ → ℕ) → Row
 row k g l s = record { number = k; gives = g; levels = l; steps = s }
 
-abbrev pub divRow : Row
-divRow = row 9 quotient (divideLevels 3) divideSteps
-
-abbrev pub modRow : Row
-modRow = row 10 remainder (divideLevels 2) divideSteps
-
 abbrev pub onNumbers : List Row
 onNumbers =
     -- +, *
@@ -114,8 +108,8 @@ onNumbers =
     ∷ row 7 (λ m n. normal (flag (ltb n m))) (λ m n. compareLevels m n + 1) turnedSteps
     ∷ row 8 (λ m n. normal (flag (not (eqb m n)))) (λ m n. compareLevels m n + 2) differSteps
     -- div, mod, -
-    ∷ divRow
-    ∷ modRow
+    ∷ row 9 quotient (divideLevels 3) divideSteps
+    ∷ row 10 remainder (divideLevels 2) divideSteps
     ∷ row 11 difference compareLevels minusSteps
     ∷ []
 
@@ -139,7 +133,7 @@ pub record AnsweredWithin (p q : List ℕ) (m : Outcome) (l c : ℕ) : Type 0 wh
       → (a : Answer) × (evaluate p q steps levels ≡ answer a) × (Final (a .said) → ⊥)
 
 -- WHAT A ROW SAYS, for all numbers m and n: what the built-in takes in the program P; what it gives by the paper's relation; that the evaluator
--- answers so with levels and steps enough; and the calls, from bytes.
+-- answers so with levels and steps enough; and what the calls answer to the bytes of the question, where it may be asked and has at most 512 words.
 abbrev pub RowTakes : Program → Row → Type 0
 RowTakes P r = (m n : ℕ) → Takes P (r .number) (num m) (num n) (r .levels m n) (endingOf (r .gives m n)) (r .steps m n)
 
@@ -151,6 +145,7 @@ RowReached P r =
     (m n L steps : ℕ) → askedLevels m n (r .levels m n) ≤ L → r .steps m n ≤ steps
     → evaluator P L steps (asked (r .number) (num m) (num n)) ≡ says (is (endingOf (r .gives m n))) (r .steps m n)
 
-abbrev pub RowAnswered : List ℕ → Declared → List ℕ → Row → Type 0
-RowAnswered p D q r =
-    (m n : ℕ) → readQuestion D q ≡ good (asked (r .number) (num m) (num n)) → AnsweredWithin p q (r .gives m n) (askedLevels m n (r .levels m n)) (r .steps m n)
+abbrev pub RowAnswered : List ℕ → Row → Type 0
+RowAnswered p r =
+    (m n : ℕ) → r .number ≤ lastCalled → m + n + 3 ≤ 512
+    → AnsweredWithin p (encode (asked (r .number) (num m) (num n))) (r .gives m n) (askedLevels m n (r .levels m n)) (r .steps m n)
