@@ -94,8 +94,8 @@ function rules() {
 
 function standing() {
     print "A step by the built-in that is called, in ns, each 1,024 times on 1 and 1; in the order of the standing list."
-    print "  >= and > are one call more, of the same kinds of step as <= and <, to which they come: where finding a rule does not depend"
-    print "  on how many stand before it, a step of theirs takes as long. div and mod make other kinds of step too."
+    print "  If finding a rule depended on how many stand before it, the times would grow down the columns. The kinds of step are not the"
+    print "  same in each row: div and mod have the larger terms."
     step_rows("built-in")
 }
 
