@@ -15,7 +15,7 @@ use Rattle.theory.specs.Arithmetic.{num, flag, difference, quotient, rem
 use Rattle.theory.specs.Encoding.{Each}
 use Rattle.theory.specs.Allowances.{Costs, Takes, callSteps, triangle, plusSteps, timesSteps, compareSteps, minusSteps, turnedSteps, differSteps, turnsSteps, divideSteps, plusLevels, timesLevels, compareLevels, turnsLevels, divideLevels, onNumbers, endingOf, askedLevels, RowTakes}
 use Rattle.theory.proofs.Tests.{leb-true, leb-false, le-of-leb, lt-of-leb}
-use Rattle.theory.proofs.ExactCost.{costs-so, takes-so, constant-costs, variable-costs, succ-costs, if-costs, none-cost, one-more-costs, rule-costs, some-level, rule-takes, none-takes}
+use Rattle.theory.proofs.ExactCost.{costs-so, takes-so, constant-costs, variable-costs, succ-costs, if-costs, no-argument-costs, one-more-costs, rule-costs, some-level, rule-takes, no-rule-takes}
 
 -- THE NUMBERS, from one call to the next
 product-next : (p q : ℕ) → suc p * suc q ≡ p * q + (p + q + 1)
@@ -184,7 +184,7 @@ module _ (k : ℕ) (fs : List Fun) where
       let h = height-num n in
       let e = compare-zero (suc n) in
       takes-so P (omega arith) (sym (ap (λ (b : Bool). endingOf (pick b (normal (num (0 - suc n))) other)) (leb·suc-zero n)))
-      (sym (ap (λ (b : Bool). pick b (compareSteps 0 (suc n)) (compareSteps 0 (suc n) - 1)) (leb·suc-zero n) ∙ omega (arith, h, e))) (none-takes P refl)
+      (sym (ap (λ (b : Bool). pick b (compareSteps 0 (suc n)) (compareSteps 0 (suc n) - 1)) (leb·suc-zero n) ∙ omega (arith, h, e))) (no-rule-takes P refl)
   minus-takes (suc m) (suc n) =
       again 11 m n refl (sym (ap₂ (λ (b : Bool) (d : ℕ). endingOf (pick b (normal (num d)) other)) (leb·suc-suc n m) (suc-sub-suc m n)))
       (paid (leb n m) ∙ sym (ap (λ (b : Bool). pick b (compareSteps (suc m) (suc n)) (compareSteps (suc m) (suc n) - 1)) (leb·suc-suc n m))) (minus-takes m n)
@@ -226,10 +226,10 @@ module _ (k : ℕ) (fs : List Fun) where
   pub not-costs : {θ : Bindings} {t : Term} {l c : ℕ} (b : Bool) → Costs P θ t l (value (flag b)) c → Costs P θ (call 2 (tcons t tnil)) (1 + l) (value (flag (not b))) (c + 5)
   not-costs true h =
       let some = some-level P h in
-      costs-so P (omega (arith, some)) refl (omega arith) (rule-costs P 2 (one-more-costs P h (none-cost P)) refl (constant-costs P falseB))
+      costs-so P (omega (arith, some)) refl (omega arith) (rule-costs P 2 (one-more-costs P h (no-argument-costs P)) refl (constant-costs P falseB))
   not-costs false h =
       let some = some-level P h in
-      costs-so P (omega (arith, some)) refl (omega arith) (rule-costs P 2 (one-more-costs P h (none-cost P)) refl (constant-costs P trueB))
+      costs-so P (omega (arith, some)) refl (omega arith) (rule-costs P 2 (one-more-costs P h (no-argument-costs P)) refl (constant-costs P trueB))
 
   differs-takes : (m n : ℕ) → Takes P 8 (num m) (num n) (compareLevels m n + 2) (value (flag (not (eqb m n)))) (differSteps m n)
   differs-takes m n = by-rule 8 m n refl (not-costs (eqb m n) (equal-takes m n .called (variable-costs P 0) (variable-costs P 1))) (omega arith) refl (omega arith)
@@ -319,7 +319,7 @@ module _ (k : ℕ) (fs : List Fun) where
 
   -- by 0 no rule fits
   by-zero : (i m : ℕ) → chosen (P .fun i .defs) (num m ∷ num 0 ∷ []) ≡ none → Takes P i (num m) (num 0) 1 (stuck 0) (m + 7)
-  by-zero i m e = takes-so P refl refl (let h = height-num m in omega (arith, h)) (none-takes P e)
+  by-zero i m e = takes-so P refl refl (let h = height-num m in omega (arith, h)) (no-rule-takes P e)
 
   quotient-takes : (m n : ℕ) → Takes P 9 (num m) (num n) (divideLevels 3 m n) (endingOf (quotient m n)) (divideSteps m n)
   quotient-takes m zero = by-zero 9 m refl

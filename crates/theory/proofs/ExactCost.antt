@@ -2,7 +2,7 @@
 -- that ends takes some.
 use Prim.Native.Nat.{ℕ, zero, suc, _+_, max, _≤_, _<_}
 use mathlib.Core.Path.{_≡_, refl, sym, ap, _∙_, subst}
-use mathlib.Core.Logic.{_≢_, _⊎_, inl, inr}
+use mathlib.Core.Logic.{_⊎_, inl, inr}
 use mathlib.Core.Bool.{Bool, true, false, false≢true}
 use mathlib.Core.List.{List, [], _∷_}
 use mathlib.Core.Option.{none, some}
@@ -40,49 +40,41 @@ module _ (P : Program) where
   takes-so {k} {v} {w} {l} {l′} {m} {m′} {c} {c′} el em ec h =
       subst (λ (x : ℕ). Takes P k v w x m′ c′) el (subst (λ (x : Ending). Takes P k v w l x c′) em (subst (λ (x : ℕ). Takes P k v w l m x) ec h))
 
-  -- a constant, a variable: one level, no steps
+  -- a term has its own level, and so many are taken below it
+  own-level : {θ : Bindings} {t : Term} {m : Ending} {c : ℕ} (l : ℕ) → ((L : ℕ) → l ≤ L → eval P (suc L) θ t ≡ paying m c)
+      → ((L : ℕ) → L < l → eval P (suc L) θ t .ending ≡ tooDeep) → Costs P θ t (1 + l) m c
+  unfolding eval
+  own-level {θ} {t} {m} {c} l enough fewer = record { ends = ends; deep = deep }
+    where
+      ends : (L : ℕ) → 1 + l ≤ L → eval P L θ t ≡ paying m c
+      ends zero h = absurd (omega (arith, h))
+      ends (suc L) h = enough L (omega (arith, h))
+
+      deep : (L : ℕ) → L < 1 + l → eval P L θ t .ending ≡ tooDeep
+      deep zero h = refl
+      deep (suc L) h = fewer L (omega (arith, h))
+
+  -- a constant, a variable: no steps
   pub constant-costs : {θ : Bindings} (b : Base) → Costs P θ (const b) 1 (value (base b)) 0
   unfolding eval
-  constant-costs {θ} b = record { ends = ends; deep = deep }
-    where
-      ends : (L : ℕ) → 1 ≤ L → eval P L θ (const b) ≡ paying (value (base b)) 0
-      ends zero h = absurd (omega (arith, h))
-      ends (suc L) h = refl
-
-      deep : (L : ℕ) → L < 1 → eval P L θ (const b) .ending ≡ tooDeep
-      deep zero h = refl
-      deep (suc L) h = absurd (omega (arith, h))
+  constant-costs b = own-level 0 (λ L h. refl) (λ L h. absurd (omega (arith, h)))
 
   pub variable-costs : {θ : Bindings} (i : ℕ) → Costs P θ (tvar i) 1 (value (θ i)) 0
   unfolding eval
-  variable-costs {θ} i = record { ends = ends; deep = deep }
-    where
-      ends : (L : ℕ) → 1 ≤ L → eval P L θ (tvar i) ≡ paying (value (θ i)) 0
-      ends zero h = absurd (omega (arith, h))
-      ends (suc L) h = refl
+  variable-costs i = own-level 0 (λ L h. refl) (λ L h. absurd (omega (arith, h)))
 
-      deep : (L : ℕ) → L < 1 → eval P L θ (tvar i) .ending ≡ tooDeep
-      deep zero h = refl
-      deep (suc L) h = absurd (omega (arith, h))
-
-  -- succ: one level more
+  -- succ: the part's
   pub succ-costs : {θ : Bindings} {t : Term} {l c : ℕ} {v : Val} → Costs P θ t l (value v) c → Costs P θ (succ t) (1 + l) (value (up v)) c
   unfolding eval
-  succ-costs {θ} {t} {l} {c} {v} k = record { ends = ends; deep = deep }
-    where
-      ends : (L : ℕ) → 1 + l ≤ L → eval P L θ (succ t) ≡ paying (value (up v)) c
-      ends zero h = absurd (omega (arith, h))
-      ends (suc L) h = ap (λ (r : Cost). succRow (r .ending) (r .paid)) (k .ends L (omega (arith, h)))
-
-      deep : (L : ℕ) → L < 1 + l → eval P L θ (succ t) .ending ≡ tooDeep
-      deep zero h = refl
-      deep (suc L) h = ap (λ (m : Ending). succRow m (eval P L θ t .paid) .ending) (k .deep L (omega (arith, h)))
+  succ-costs {θ} {t} {l} part =
+      own-level l (λ L h. ap (λ (r : Cost). succRow (r .ending) (r .paid)) (part .ends L h)) (λ L h. ap (λ (m : Ending). succRow m (eval P L θ t .paid) .ending) (part .deep L h))
 
   -- if: a step, and the part that the test picks
   pub if-costs : {θ : Bindings} {t s u : Term} {l l′ c d : ℕ} {m : Ending} (b : Bool) → Costs P θ t l (value (flag b)) c → Costs P θ (pick b s u) l′ m d
       → Costs P θ (cond t s u) (1 + max l l′) m (c + 1 + d)
   unfolding eval
-  if-costs {θ} {t} {s} {u} {l} {l′} {c} {d} {m} b test part = record { ends = ends; deep = deep }
+  if-costs {θ} {t} {s} {u} {l} {l′} {c} {d} {m} b test part =
+      own-level (max l l′) (λ L h. tested L (omega (arith, h)) ∙ ap (after (c + 1)) (part .ends L (omega (arith, h)))) (λ L h. below L h (enough-or-not l L))
     where
       picked : (b : Bool) (L : ℕ) → ifRow (eval P L) θ s u (value (flag b)) c ≡ after (c + 1) (eval P L θ (pick b s u))
       picked true L = refl
@@ -91,28 +83,17 @@ module _ (P : Program) where
       tested : (L : ℕ) → l ≤ L → eval P (suc L) θ (cond t s u) ≡ after (c + 1) (eval P L θ (pick b s u))
       tested L h = ap (λ (r : Cost). ifRow (eval P L) θ s u (r .ending) (r .paid)) (test .ends L h) ∙ picked b L
 
-      ends : (L : ℕ) → 1 + max l l′ ≤ L → eval P L θ (cond t s u) ≡ paying m (c + 1 + d)
-      ends zero h = absurd (omega (arith, h))
-      ends (suc L) h = tested L (omega (arith, h)) ∙ ap (after (c + 1)) (part .ends L (omega (arith, h)))
-
-      untested : (L : ℕ) → L < l → eval P (suc L) θ (cond t s u) .ending ≡ tooDeep
-      untested L h = ap (λ (r : Ending). ifRow (eval P L) θ s u r (eval P L θ t .paid) .ending) (test .deep L h)
-
       below : (L : ℕ) → L < max l l′ → (l ≤ L) ⊎ (L < l) → eval P (suc L) θ (cond t s u) .ending ≡ tooDeep
       below L h (inl k) = ap (λ (r : Cost). r .ending) (tested L k) ∙ part .deep L (omega (arith, h, k))
-      below L h (inr k) = untested L k
-
-      deep : (L : ℕ) → L < 1 + max l l′ → eval P L θ (cond t s u) .ending ≡ tooDeep
-      deep zero h = refl
-      deep (suc L) h = below L (omega (arith, h)) (enough-or-not l L)
+      below L h (inr k) = ap (λ (r : Ending). ifRow (eval P L) θ s u r (eval P L θ t .paid) .ending) (test .deep L k)
 
   -- THE ARGUMENTS OF A CALL: their values, where each has its levels
   pub record ArgsCost (θ : Bindings) (ts : Terms) (l : ℕ) (vs : List Val) (c : ℕ) : Type 0 where
     pub ends : (L : ℕ) → l ≤ L → evalArgs (eval P L) θ ts ≡ payingArgs (vals vs) c
     pub deep : (L : ℕ) → L < l → evalArgs (eval P L) θ ts .args ≡ ended tooDeep
 
-  pub none-cost : {θ : Bindings} → ArgsCost θ tnil 0 [] 0
-  none-cost = record { ends = λ L h. refl; deep = λ L h. absurd (omega (arith, h)) }
+  pub no-argument-costs : {θ : Bindings} → ArgsCost θ tnil 0 [] 0
+  no-argument-costs = record { ends = λ L h. refl; deep = λ L h. absurd (omega (arith, h)) }
 
   pub one-more-costs : {θ : Bindings} {t : Term} {ts : Terms} {l l′ c d : ℕ} {v : Val} {vs : List Val} → Costs P θ t l (value v) c → ArgsCost θ ts l′ vs d
       → ArgsCost θ (tcons t ts) (max l l′) (v ∷ vs) (c + height v + 3 + d)
@@ -143,35 +124,18 @@ module _ (P : Program) where
 
     pub rule-costs : {f : Found} {l′ d : ℕ} {m : Ending} → chosen (P .fun k .defs) vs ≡ some f → Costs P (f .bound) (f .body) l′ m d
         → Costs P θ (call k ts) (1 + max l l′) m (1 + c + 1 + d)
-    unfolding eval
-    rule-costs {f} {l′} {d} {m} e right = record { ends = ends; deep = deep }
+    rule-costs {f} {l′} {d} {m} e right =
+        own-level (max l l′) (λ L h. fits L (omega (arith, h)) ∙ ap (after (1 + c + 1)) (right .ends L (omega (arith, h)))) (λ L h. below L h (enough-or-not l L))
       where
         fits : (L : ℕ) → l ≤ L → eval P (suc L) θ (call k ts) ≡ after (1 + c + 1) (eval P L (f .bound) (f .body))
         fits L h = called L h ∙ ap (bodyRow (eval P L) (1 + c)) e
-
-        ends : (L : ℕ) → 1 + max l l′ ≤ L → eval P L θ (call k ts) ≡ paying m (1 + c + 1 + d)
-        ends zero h = absurd (omega (arith, h))
-        ends (suc L) h = fits L (omega (arith, h)) ∙ ap (after (1 + c + 1)) (right .ends L (omega (arith, h)))
 
         below : (L : ℕ) → L < max l l′ → (l ≤ L) ⊎ (L < l) → eval P (suc L) θ (call k ts) .ending ≡ tooDeep
         below L h (inl g) = ap (λ (r : Cost). r .ending) (fits L g) ∙ right .deep L (omega (arith, h, g))
         below L h (inr g) = not-called L g
 
-        deep : (L : ℕ) → L < 1 + max l l′ → eval P L θ (call k ts) .ending ≡ tooDeep
-        deep zero h = refl
-        deep (suc L) h = below L (omega (arith, h)) (enough-or-not l L)
-
     pub no-rule-costs : chosen (P .fun k .defs) vs ≡ none → Costs P θ (call k ts) (1 + l) (stuck 0) (1 + c)
-    unfolding eval
-    no-rule-costs e = record { ends = ends; deep = deep }
-      where
-        ends : (L : ℕ) → 1 + l ≤ L → eval P L θ (call k ts) ≡ paying (stuck 0) (1 + c)
-        ends zero h = absurd (omega (arith, h))
-        ends (suc L) h = called L (omega (arith, h)) ∙ ap (bodyRow (eval P L) (1 + c)) e
-
-        deep : (L : ℕ) → L < 1 + l → eval P L θ (call k ts) .ending ≡ tooDeep
-        deep zero h = refl
-        deep (suc L) h = not-called L (omega (arith, h))
+    no-rule-costs e = own-level l (λ L h. called L h ∙ ap (bodyRow (eval P L) (1 + c)) e) not-called
 
   -- a term with a value takes a level at least
   pub some-level : {θ : Bindings} {t : Term} {l c : ℕ} {v : Val} → Costs P θ t l (value v) c → 1 ≤ l
@@ -186,14 +150,14 @@ module _ (P : Program) where
   pub rule-takes : {k : ℕ} {v w : Val} {f : Found} {l c : ℕ} {m : Ending} → chosen (P .fun k .defs) (v ∷ w ∷ []) ≡ some f → Costs P (f .bound) (f .body) l m c
       → Takes P k v w l m (callSteps (height v) (height w) + c)
   rule-takes {k} e right =
-      record { called = λ ka kb. costs-so (omega arith) refl (omega arith) (rule-costs k (one-more-costs ka (one-more-costs kb none-cost)) e right) }
+      record { called = λ ka kb. costs-so (omega arith) refl (omega arith) (rule-costs k (one-more-costs ka (one-more-costs kb no-argument-costs)) e right) }
 
-  pub none-takes : {k : ℕ} {v w : Val} → chosen (P .fun k .defs) (v ∷ w ∷ []) ≡ none → Takes P k v w 1 (stuck 0) (height v + height w + 7)
-  none-takes {k} e =
+  pub no-rule-takes : {k : ℕ} {v w : Val} → chosen (P .fun k .defs) (v ∷ w ∷ []) ≡ none → Takes P k v w 1 (stuck 0) (height v + height w + 7)
+  no-rule-takes {k} e =
       record {
         called = λ ka kb.
             let some = some-level ka in
-            costs-so (omega (arith, some)) refl (omega arith) (no-rule-costs k (one-more-costs ka (one-more-costs kb none-cost)) e);
+            costs-so (omega (arith, some)) refl (omega arith) (no-rule-costs k (one-more-costs ka (one-more-costs kb no-argument-costs)) e);
       }
 
   -- a value written down: no steps, and a level more than it has succ
