@@ -1,6 +1,7 @@
 -- WHAT THE BUILT-IN FUNCTIONS GIVE AND TAKE ON NUMBERS is what specs/Allowances says, in every program (document 02, Q-4).
 use Prim.Native.Nat.{ℕ, zero, suc, _+_, _*_, _-_, _/_, _%_, min, max, _≤_, _<_}
 use mathlib.Core.Path.{_≡_, refl, sym, ap, ap₂, _∙_}
+use mathlib.Core.Logic.{_⊎_, inl, inr}
 use mathlib.Core.Bool.{Bool, true, false, not}
 use mathlib.Core.List.{List, [], _∷_}
 use mathlib.Core.Option.{none, some}
@@ -14,7 +15,7 @@ use Rattle.theory.specs.Endings.{Ending, value, stuck}
 use Rattle.theory.specs.Arithmetic.{num, flag, difference, quotient, remainder}
 use Rattle.theory.specs.Encoding.{Each}
 use Rattle.theory.specs.Allowances.{Costs, Takes, callSteps, triangle, plusSteps, timesSteps, compareSteps, minusSteps, turnedSteps, differSteps, turnsSteps, divideSteps, plusLevels, timesLevels, compareLevels, turnsLevels, divideLevels, onNumbers, endingOf, askedLevels, RowTakes}
-use Rattle.theory.proofs.Tests.{leb-true, leb-false, le-of-leb, lt-of-leb}
+use Rattle.theory.proofs.Tests.{leb-true, leb-false, enough-or-not}
 use Rattle.theory.proofs.ExactCost.{costs-so, takes-so, constant-costs, variable-costs, succ-costs, if-costs, no-argument-costs, one-more-costs, rule-costs, some-level, rule-takes, no-rule-takes}
 
 -- THE NUMBERS, from one call to the next
@@ -250,23 +251,20 @@ module _ (k : ℕ) (fs : List Fun) where
 
   -- what it says of m and n that n + 1 goes into m so many times
   none-of-it : (m n : ℕ) → m / suc n ≡ 0 → m < suc n
-  none-of-it m n e = go (leb (suc n) m) refl
+  none-of-it m n e = go (enough-or-not (suc n) m)
     where
-      go : (b : Bool) → leb (suc n) m ≡ b → m < suc n
-      go true h = absurd (let l = div-eq-sub-div (omega arith) (le-of-leb (suc n) m h) in omega (arith, e, l))
-      go false h = lt-of-leb (suc n) m h
+      go : (suc n ≤ m) ⊎ (m < suc n) → m < suc n
+      go (inl g) = absurd (let l = div-eq-sub-div (omega arith) g in omega (arith, e, l))
+      go (inr l) = l
 
   once-more : (q m n : ℕ) → m / suc n ≡ suc q → (suc n ≤ m) × ((m - suc n) / suc n ≡ q)
-  once-more q m n e = go (leb (suc n) m) refl
+  once-more q m n e = go (enough-or-not (suc n) m)
     where
-      go : (b : Bool) → leb (suc n) m ≡ b → (suc n ≤ m) × ((m - suc n) / suc n ≡ q)
-      go true h =
-          let g = le-of-leb (suc n) m h in
-          let l = div-eq-sub-div (omega arith) g in
-          (g, omega (arith, e, l))
-      go false h = absurd (let l = div-eq-of-lt (lt-of-leb (suc n) m h) in omega (arith, e, l))
+      go : (suc n ≤ m) ⊎ (m < suc n) → (suc n ≤ m) × ((m - suc n) / suc n ≡ q)
+      go (inl g) = let l = div-eq-sub-div (omega arith) g in (g, omega (arith, e, l))
+      go (inr h) = absurd (let l = div-eq-of-lt h in omega (arith, e, l))
 
-  -- the levels and the steps of the last turn, and of one more; a right side takes j levels around its next turn, k in all with that call
+  -- the levels and the steps of the last turn, and of a turn before others; around those stands succ in div (j is 1) and nothing in mod (0)
   last-levels : (k m n : ℕ) → m < suc n → 1 + max (1 + max 2 (compareLevels m (suc n))) 1 ≡ turnsLevels k 0 m (suc n)
   last-levels k m n l = omega (arith, l)
 
@@ -276,9 +274,9 @@ module _ (k : ℕ) (fs : List Fun) where
   test-levels : (m n : ℕ) → suc n ≤ m → 1 + max 2 (compareLevels m (suc n)) ≡ n + 3
   test-levels m n l = omega (arith, l)
 
-  more-levels : (q m n : ℕ) → m / suc n ≡ suc q → (j : ℕ)
+  turn-levels : (q m n : ℕ) → m / suc n ≡ suc q → (j : ℕ)
       → let t = 1 + max 2 (compareLevels m (suc n)) in 1 + max t (j + (1 + max (max t 2) (turnsLevels (2 + j) q (m - suc n) (suc n)))) ≡ turnsLevels (2 + j) (suc q) m (suc n)
-  more-levels q m n e j =
+  turn-levels q m n e j =
       let h = once-more q m n e in
       ap (λ (t : ℕ). 1 + max t (j + (1 + max (max t 2) (turnsLevels (2 + j) q (m - suc n) (suc n))))) (test-levels m n (h .0)) ∙ next q (m - suc n) (h .1)
     where
@@ -286,9 +284,9 @@ module _ (k : ℕ) (fs : List Fun) where
       next zero r f = let l = none-of-it r n f in omega (arith, l)
       next (suc q) r f = let g = mul-suc (2 + j) (suc q) in omega (arith, g)
 
-  more-steps : (q m n : ℕ) → m / suc n ≡ suc q
+  turn-steps : (q m n : ℕ) → m / suc n ≡ suc q
       → callSteps m (suc n) + (compareSteps m (suc n) + 1 + (compareSteps m (suc n) + 0 + turnsSteps q ((m - suc n) % suc n) (suc n))) ≡ turnsSteps (suc q) (m % suc n) (suc n)
-  more-steps q m n e =
+  turn-steps q m n e =
       let g = once-more q m n e .0 in
       let d : m ≡ suc q * suc n + m % suc n = sym (div-add-mod' m (suc n)) ∙ ap (λ (p : ℕ). p * suc n + m % suc n) e in
       ap (λ (r : ℕ). callSteps m (suc n) + (compareSteps m (suc n) + 1 + (compareSteps m (suc n) + 0 + turnsSteps q r (suc n)))) (sym (mod-eq-sub-mod g))
@@ -303,7 +301,7 @@ module _ (k : ℕ) (fs : List Fun) where
       let g = h .0 in
       by-rule 9 m (suc n) refl
       (if-costs P false (test m n false (leb-false (suc m) (suc n) (omega (arith, g)))) (succ-costs P (quotient-turns q (m - suc n) n (h .1) .called (rest m n g) (divisor m n))))
-      (more-levels q m n e 1) refl (more-steps q m n e)
+      (turn-levels q m n e 1) refl (turn-steps q m n e)
 
   remainder-turns : (q m n : ℕ) → m / suc n ≡ q → Takes P 10 (num m) (num (suc n)) (turnsLevels 2 q m (suc n)) (value (num (m % suc n))) (turnsSteps q (m % suc n) (suc n))
   remainder-turns zero m n e =
@@ -315,7 +313,7 @@ module _ (k : ℕ) (fs : List Fun) where
       let g = h .0 in
       by-rule 10 m (suc n) refl
       (if-costs P false (test m n false (leb-false (suc m) (suc n) (omega (arith, g)))) (remainder-turns q (m - suc n) n (h .1) .called (rest m n g) (divisor m n)))
-      (ap (λ (l : ℕ). 1 + max (1 + max 2 (compareLevels m (suc n))) l) (omega arith) ∙ more-levels q m n e 0) (counted (m % suc n) ((m - suc n) % suc n) (mod-eq-sub-mod g)) (more-steps q m n e)
+      (ap (λ (l : ℕ). 1 + max (1 + max 2 (compareLevels m (suc n))) l) (omega arith) ∙ turn-levels q m n e 0) (counted (m % suc n) ((m - suc n) % suc n) (mod-eq-sub-mod g)) (turn-steps q m n e)
 
   -- by 0 no rule fits
   by-zero : (i m : ℕ) → chosen (P .fun i .defs) (num m ∷ num 0 ∷ []) ≡ none → Takes P i (num m) (num 0) 1 (stuck 0) (m + 7)

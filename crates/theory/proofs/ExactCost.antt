@@ -13,16 +13,8 @@ use Rattle.theory.specs.Endings.{Ending, value, raised, stuck, tooDeep, 
 use Rattle.theory.specs.Cost.{Cost, paying, after, succRow, ifRow, Args, vals, ended, ArgCost, payingArgs, consRow, argRow, evalArgs, bodyRow, callRow, eval, cut, evaluator}
 use Rattle.theory.specs.Arithmetic.{flag, written, asked}
 use Rattle.theory.specs.Allowances.{Costs, Takes, callSteps}
-use Rattle.theory.proofs.Tests.{leb-true, leb-false, le-of-leb, lt-of-leb}
+use Rattle.theory.proofs.Tests.{leb-true, leb-false, enough-or-not}
 use Rattle.theory.proofs.Levels.{Keeps, more-levels}
-
--- enough, or too few
-pub enough-or-not : (l L : ℕ) → (l ≤ L) ⊎ (L < l)
-enough-or-not l L = go (leb l L) refl
-  where
-    go : (b : Bool) → leb l L ≡ b → (l ≤ L) ⊎ (L < l)
-    go true e = inl (le-of-leb l L e)
-    go false e = inr (lt-of-leb l L e)
 
 abbrev isDeep : Ending → Bool
 isDeep (value v) = false

@@ -1,7 +1,7 @@
 -- The computed tests on numbers as equations, both ways, and what a choice by a test comes to.
 use Prim.Native.Nat.{ℕ, _<_, _≤_}
 use mathlib.Core.Path.{_≡_, refl, sym, ap, _∙_, subst}
-use mathlib.Core.Logic.{_≢_}
+use mathlib.Core.Logic.{_≢_, _⊎_, inl, inr}
 use mathlib.Core.Bool.{Bool, true, false, not, _&&_, false≢true}
 use mathlib.Core.Option.{Option, none, some, Option·none-ne-some}
 use native.Mathlib.Omega.{arith}
@@ -31,6 +31,14 @@ leb-false m n h = go (leb m n) refl
 
 pub lt-of-leb : (m n : ℕ) → leb m n ≡ false → n < m
 lt-of-leb m n e = nleb→lt m n (true→T (not (leb m n)) (ap not e))
+
+-- one or the other
+pub enough-or-not : (m n : ℕ) → (m ≤ n) ⊎ (n < m)
+enough-or-not m n = go (leb m n) refl
+  where
+    go : (b : Bool) → leb m n ≡ b → (m ≤ n) ⊎ (n < m)
+    go true e = inl (le-of-leb m n e)
+    go false e = inr (lt-of-leb m n e)
 
 pub eqb-true : (m n : ℕ) → m ≡ n → eqb m n ≡ true
 eqb-true m n e = subst (λ (k : ℕ). eqb m k ≡ true) e (T→true (eqb m m) (eqb-refl m))
