@@ -338,7 +338,7 @@ quotient-and-remainder m n = (sym (div-add-mod' m (suc n)), mod-lt m (omega arit
 
 -- Document 01's starred sums +(0,0) and +(succ(0),0); then the examples of docs/FORMAT.md: a question's steps and levels, what 1,000 by 7 takes, and
 -- the largest number that 1,000,000 steps divide by 7
-pub computed : (plusSteps 0 0 ≡ 8) × (plusSteps 1 0 ≡ 17)
+pub costs-computed : (plusSteps 0 0 ≡ 8) × (plusSteps 1 0 ≡ 17)
     × (plusSteps 100 100 ≡ 15958) × (askedLevels 100 100 (plusLevels 100 100) ≡ 202)
     × (timesSteps 10 10 ≡ 6633) × (askedLevels 10 10 (timesLevels 10 10) ≡ 41)
     × (compareSteps 200 300 ≡ 61908) × (askedLevels 200 300 (compareLevels 200 300) ≡ 302)
@@ -346,4 +346,4 @@ pub computed : (plusSteps 0 0 ≡ 8) × (plusSteps 1 0 ≡ 17)
     × (divideSteps 300 100 ≡ 127192) × (askedLevels 300 100 (divideLevels 3 300 100) ≡ 302)
     × (divideSteps 1000 7 ≡ 1243266) × (divideLevels 3 1000 7 ≡ 435)
     × (divideSteps 895 7 ≡ 998601) × (divideSteps 896 7 ≡ 1000927)
-computed = (refl, refl, refl, refl, refl, refl, refl, refl, refl, refl, refl, refl, refl, refl, refl, refl)
+costs-computed = (refl, refl, refl, refl, refl, refl, refl, refl, refl, refl, refl, refl, refl, refl, refl, refl)

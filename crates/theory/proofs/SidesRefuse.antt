@@ -1,6 +1,6 @@
 -- BY WHICH NUMBERS, AND WHERE, A TERM'S RECORDS ARE REFUSED: one walk over the records of a side or of a question. The number is one of 2 to 8
 -- that may be given there; the place is not past the bytes, nor past three bytes for each word that is still allowed.
-use Prim.Native.Nat.{ℕ, zero, suc, _+_, _*_, _-_, _≤_}
+use Prim.Native.Nat.{ℕ, zero, suc, _+_, _*_, _-_, _≤_, _<_}
 use mathlib.Core.Path.{_≡_, refl}
 use mathlib.Core.Logic.{_≢_, inl, inr}
 use mathlib.Core.Bool.{Bool, true, false}
@@ -9,8 +9,9 @@ use native.Mathlib.Omega.{arith}
 use lib.Dec.{T, leb, leb→le}
 use lib.ListN.{length}
 use Rattle.theory.specs.Syntax.{elem, pick, choose}
+use Rattle.theory.specs.Builtins.{lastCalled}
 use Rattle.theory.specs.Bytes.{TermRecord, constantRecord, succRecord, ifRecord, variableRecord, raiseRecord, handleRecord, callRecord, recordParts, recordWords, NextRecord, noneLeft, cutShort, nextIs, nextRecord, Refusal, Result, refused, good, refuse, ifGood, Declared, termRecord, Where, onLeft, onRight, inQuestion, allowed, ceiling, Side, addRecord, readTermRecord, readSide}
-use Rattle.theory.proofs.Tests.{ne-of-eqb, le-of-leb}
+use Rattle.theory.proofs.Tests.{leb-false, ne-of-eqb, le-of-leb}
 use Rattle.theory.proofs.RecordRead.{RecordRead, record-read}
 use Rattle.theory.proofs.SidesRead.{IsNext, next-is, next-long}
 
@@ -162,3 +163,9 @@ side-ends D (suc fuel) w (suc due) count p bs = go (nextRecord bs) (next-is bs) 
         kind (refused r) (at, inl e) = early r at (omega (arith, e)) (omega (arith, e))
         kind (refused r) (at, inr e) = early r at (omega (arith, e)) (omega (arith, e))
         kind (good t) h = place t (allowed w p t) (allowed-stands w p t)
+
+-- A BUILT-IN OVER THE LARGEST that may be called: wherever a term's record is read, on a left side, on a right side or in a question, it is 4 at its
+-- place, whatever else is wrong there and whatever stands behind.
+pub over-largest : (D : Declared) (go : Where → ℕ → ℕ → ℕ → List ℕ → Result Side) (w : Where) (due count p b c n : ℕ) (bs : List ℕ) → lastCalled < b
+    → readTermRecord D go w due count p (nextIs 0x18 b c n bs) ≡ refuse 4 p
+over-largest D go w due count p b c n bs h = rw (leb-false b lastCalled h)

@@ -15,7 +15,7 @@ use Rattle.theory.specs.Answers.{answer, evaluate}
 use Rattle.theory.specs.Demands.{EvaluateInRange, OnlyAnswers}
 use Rattle.theory.specs.Arithmetic.{num, flag, Gives, asked, difference, quotient, remainder}
 
--- t takes just these levels, its own among them, and these steps, and ends as m.
+-- t takes just these levels, its own among them, and these steps, and ends as m: with as many levels it does, with fewer it is too deep.
 pub record Costs (P : Program) (θ : Bindings) (t : Term) (levels : ℕ) (m : Ending) (c : ℕ) : Type 0 where
   pub ends : (L : ℕ) → levels ≤ L → eval P L θ t ≡ paying m c
   pub deep : (L : ℕ) → L < levels → eval P L θ t .ending ≡ tooDeep
@@ -37,6 +37,7 @@ triangle n = n * (n + 1) / 2
 abbrev pub plusSteps : ℕ → ℕ → ℕ
 plusSteps m n = (m + 1) * (n + 8) + triangle m
 
+-- m + 1 calls as of +, and + of n and 0, n, 2n and so on, m times
 abbrev pub timesSteps : ℕ → ℕ → ℕ
 timesSteps m n = plusSteps m n + 8 * (m * (n + 1)) + m * m * triangle n
 
@@ -55,7 +56,8 @@ turnedSteps m n = callSteps m n + compareSteps m n
 abbrev pub differSteps : ℕ → ℕ → ℕ
 differSteps m n = turnedSteps m n + 5
 
--- div and mod: q turns with a call, < and - each, and the last, with a call and <; by 0 the charges of the call
+-- div and mod by d. A turn on m has a call, <, the step of if, and -: (m + d + 8) + (d+1)(m+8) + 1 + (d+1)(m+8), which is (2d+3)m + 17d + 25. The q
+-- turns are on r + d, r + 2d, …, r + qd; the last, on r, has no -. By 0: the charges of the call
 abbrev pub turnsSteps : ℕ → ℕ → ℕ → ℕ
 turnsSteps q r d = (2 * d + 3) * (q * r + d * triangle q) + q * (17 * d + 25) + (turnedSteps r d + 1)
 
