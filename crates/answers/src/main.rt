@@ -1,4 +1,6 @@
 // Answers cases: reads one a line from standard input, and writes for each how both engines answer and what the lent slices then hold.
+#![tactic(auto)]
+
 mod cases;
 mod output;
 

@@ -1,4 +1,6 @@
 // The two public calls: they refuse by the numbers 1 to 13 and 17, or run one engine.
+#![tactic(auto)]
+
 pub mod door;
 mod evaluating;
 mod judge;

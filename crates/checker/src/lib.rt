@@ -1,4 +1,6 @@
 // The checker: which strings of bytes are rule programs and questions, and by which number and at which place the others are refused.
+#![tactic(auto)]
+
 pub mod builtins;
 mod declarations;
 mod node;

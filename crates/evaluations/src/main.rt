@@ -1,4 +1,6 @@
 // Document 01's sums, the figures of document 004 and the endless program, evaluated: a line each, with the fields of document 01.
+#![tactic(auto)]
+
 mod programs;
 
 ghost use Rattle.std.specs.Prelude.{◌≤◌};

@@ -1,5 +1,7 @@
 // The evaluator over root-first words: a question, and the right sides of the rules of the standing list and of the own list.
 // Steps and levels go by the table of document 01. A call looks only at its own function's rules, by the indexes that are lent.
+#![tactic(auto)]
+
 mod evaluation;
 mod fitting;
 mod places;

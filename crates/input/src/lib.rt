@@ -1,4 +1,6 @@
 // The lines of standard input, one at a time, through a chunk buffer and a line buffer that the caller lends.
+#![tactic(auto)]
+
 ghost use Rattle.std.specs.Prelude.{◌≡◌, ◌+◌, ◌≤◌, length};
 ghost use Rattle.input.specs.Places.{Within};
 

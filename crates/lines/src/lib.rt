@@ -1,4 +1,6 @@
 // Lines of fields: where a field ends, and the bytes that its hexadecimal digits stand for.
+#![tactic(auto)]
+
 ghost use Rattle.std.specs.Prelude.{◌≡◌, true, ◌+◌, ◌≤◌, ◌<◌, ◌/◌, length, drop};
 ghost use Rattle.theory.specs.Buffers.{put};
 ghost use Rattle.lines.specs.Hex.{digit_of, byte_of, all_digits, readable_of, pairs_of};

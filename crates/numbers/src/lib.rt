@@ -1,4 +1,6 @@
 // A number at another width: a byte (u8), a word (u16), a report's word (u32), a size.
+#![tactic(auto)]
+
 ghost use Rattle.std.specs.Prelude.{◌≡◌, ◌<◌};
 
 pub fn word_of_byte(n: u8) -> u16

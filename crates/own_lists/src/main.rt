@@ -1,5 +1,7 @@
 // The own list of figure 2's program, rule by rule, and a question's words; then the largest own list, 13,263 words: its length, a slice
 // of just that length, and one that is a word shorter.
+#![tactic(auto)]
+
 mod built;
 mod lists;
 mod shown;

@@ -1,4 +1,6 @@
 // One record of a program's or a question's bytes: the checker and the reading of terms as words share this one reading.
+#![tactic(auto)]
+
 ghost use Rattle.std.specs.Prelude.{◌≡◌};
 ghost use Rattle.record.specs.Record.{no_record, record_at};
 ghost use Rattle.theory.specs.Bytes.{body_length};

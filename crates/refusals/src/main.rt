@@ -1,4 +1,6 @@
 // Reads lines `PROGRAM QUESTION` in hexadecimal digits, and prints for each by which number and at which place the checker refuses it.
+#![tactic(auto)]
+
 ghost use Rattle.std.specs.Prelude.{◌≤◌, length};
 
 use input::Input;

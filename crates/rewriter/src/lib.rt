@@ -1,4 +1,6 @@
 // The rewriter: a question's words are rewritten in two lent buffers until nothing fits, and the ending is read off.
+#![tactic(auto)]
+
 pub mod ending;
 
 ghost use Rattle.std.specs.Prelude.{◌≡◌, ◌≤◌, length, replicate};

@@ -1,6 +1,8 @@
 // Prints the rewriter's term after every number of steps, and how the run ends, for some programs and questions: traces that two
 // other implementations agree on. Each run is made twice, with steps in place and with every step into the other buffer; where the two
 // differ, in the ending, the count or a word of either buffer, it says so.
+#![tactic(auto)]
+
 ghost use Rattle.std.specs.Prelude.{◌≤◌};
 
 use checker::builtins::start_arities;

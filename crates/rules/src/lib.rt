@@ -1,5 +1,7 @@
 // The rules that a term is rewritten by: the standing table, matching, the fitting rule as a part of one of two lists, and whether the
 // lists are the usual ones.
+#![tactic(auto)]
+
 pub mod finding;
 pub mod index;
 pub mod matching;

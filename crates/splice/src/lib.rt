@@ -3,6 +3,8 @@
 //
 // A variable v is bound to the words starts[v]..ends[v] of the subject, the words from the rewritten place on. One that the left side has
 // not is bound to no words: no right side of an accepted program has such a variable.
+#![tactic(auto)]
+
 ghost use Rattle.std.specs.Prelude.{◌≡◌, ◌+◌, ◌-◌, ◌≤◌, length, take, drop};
 ghost use Rattle.theory.specs.Buffers.{over, put};
 ghost use Rattle.splice.specs.Right.{Parts, shown_by, word_len, word_for, new_len, new, step_of, placed, written_of};

@@ -1,4 +1,6 @@
 // An accepted program's own list of rewrite rules, and a question's words, written from the start of a lent slice.
+#![tactic(auto)]
+
 mod lengths;
 mod rules;
 

@@ -1,4 +1,6 @@
 // What the two calls report, in words, put into a buffer that the caller lends.
+#![tactic(auto)]
+
 ghost use Rattle.std.specs.Prelude.{◌+◌, ◌≤◌, length};
 ghost use Rattle.wording.specs.Text.{Wrote, number_of};
 ghost use Rattle.wording.specs.Words.{name_of, amount_of, base_of, ending_of, about_of, refusal_of};
