@@ -1,0 +1,15 @@
+-- `exceptions::equal_rules` meets its contract. The invariant: the rules of the numbers below e are written.
+use mathlib.Core.Path.{ap}
+use Prim.Native.Nat.{◌-◌, ◌≤◌}
+use native.Mathlib.Nat.{le_antisymm}
+use native.Mathlib.Omega.{arith}
+use Rattle.theory.specs.Translation.{same_rule}
+use Rattle.generated.specs.Wrote.{Wrote}
+use Rattle.generated.proofs.Writes.{below, wrote_none, wrote-length, wrote_as, turn-room, turn_more}
+use Rattle.generated.proofs.exceptions.equal_rules.Given as goal
+
+abbrev pub invariant-loop-e : goal.invariant-loop-e
+invariant-loop-e l = (l.e ≤ l.n) × Wrote (below same_rule l.e) l.at l.initial.dst l.dst l.next
+
+abbrev pub decreases-loop-e : goal.decreases-loop-e
+decreases-loop-e l = l.n - l.e

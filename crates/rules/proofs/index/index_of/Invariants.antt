@@ -1,0 +1,15 @@
+-- `index::index_of` meets its contract. The invariant: the pass from the present place on makes of the present index what the whole pass makes.
+use mathlib.Core.Path.{◌≡◌, refl, sym, ◌∙◌}
+use Prim.Native.Nat.{◌-◌, ◌≤◌}
+use native.Mathlib.Omega.{arith}
+use lib.ListN.{length, drop, length-set}
+use Rattle.rules.specs.Index.{index_from, index_of}
+use Rattle.rules.proofs.Pass.{pass-end, pass-last, pass-over, pass_on}
+use borrow.Author.Rules.{rules}
+use Rattle.rules.proofs.index.index_of.Given as goal
+
+abbrev pub invariant-loop-at : goal.invariant-loop-at
+invariant-loop-at l = (l.at ≤ length l.list) × (length l.index ≡ 802) × (index_of l.list ≡ index_from 0 l.at (drop l.at l.list) l.index)
+
+abbrev pub decreases-loop-at : goal.decreases-loop-at
+decreases-loop-at l = length l.list - l.at
