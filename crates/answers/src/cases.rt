@@ -7,7 +7,7 @@ use lines::Decoded;
 const LARGEST: usize = 4294967295;
 
 // How many bytes the program and the question have, the allowances, and the lengths of the lent slices. Not `good`: the line is no case.
-#[derive(Drop)]
+#[derive(Clone, Copy)]
 pub struct Case {
     pub good: bool,
     pub program: usize,
@@ -21,7 +21,7 @@ pub struct Case {
 }
 
 // A field that was read: whether it and those before it are good, the number, or how many bytes it has, and where the next field starts.
-#[derive(Drop)]
+#[derive(Clone, Copy)]
 struct Field {
     good: bool,
     value: usize,

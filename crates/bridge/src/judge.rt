@@ -18,7 +18,7 @@ fn refusal_by(number: u8, about: u32, place: usize) -> Report
 }
 
 // The refusal, all zero where there is none, and the checker's answer on the program.
-#[derive(Drop)]
+#[derive(Clone, Copy)]
 pub struct Judged {
     pub refusal: Report,
     pub checked: Checked,

@@ -8,7 +8,7 @@ use checker::Checked;
 use translator::Own;
 
 // So many words are written; or the slice is shorter, and nothing is.
-#[derive(Drop)]
+#[derive(Clone, Copy)]
 pub enum Written {
     Count(usize),
     Short,

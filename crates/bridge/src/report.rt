@@ -2,7 +2,7 @@
 ghost use Rattle.std.specs.Prelude.{◌≡◌, ◌<◌};
 ghost use Rattle.bridge.specs.Report.{refusal_report, ending_report};
 
-#[derive(Drop)]
+#[derive(Clone, Copy)]
 pub struct Report {
     // The refusal's number, what it is about (1 the program, 2 the question), and the byte place there.
     pub number: u32,

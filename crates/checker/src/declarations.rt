@@ -7,7 +7,7 @@ use crate::builtins::start_arities;
 // What has been read of a program. Stage 0 is among exceptions, 1 among functions, 2 among rules, 3 at the end. A refused program
 // is at the end with the number and the place of its refusal, and zero elsewhere. Arities by function number: built-in b is b,
 // declared f is 16 + f. Openings are the places where the rules begin. Ruled says which of the declared functions have a rule.
-#[derive(Drop)]
+#[derive(Clone, Copy)]
 pub struct Top {
     pub number: u8,
     pub place: usize,

@@ -22,7 +22,7 @@ use side::{Stand, read_side};
 
 // A program's answer: by which number and at which place it is refused, and zero elsewhere; or 0 and 0, its declarations, the
 // arities by function number (built-in b is b, declared f is 16 + f), and the places where its rules open.
-#[derive(Drop)]
+#[derive(Clone, Copy)]
 pub struct Checked {
     pub number: u8,
     pub place: usize,
@@ -86,7 +86,7 @@ pub fn check_program(program: &[u8]) -> Checked
 }
 
 // A question's verdict: by which number and at which place it is refused; or 0 and 0.
-#[derive(Drop)]
+#[derive(Clone, Copy)]
 pub struct Verdict {
     pub number: u8,
     pub place: usize,

@@ -5,7 +5,7 @@ ghost use Rattle.checker.specs.Node.{tok_at, node_of, exception_node, builtin_no
 use crate::builtins::{LAST_CALLED, builtin_arity};
 
 // What a record of a term is: refused by a number; a constant; succ; or what no left side has, with its parts and its words.
-#[derive(Drop)]
+#[derive(Clone, Copy)]
 pub enum Node {
     Refused(u8),
     Leaf,

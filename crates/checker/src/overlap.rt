@@ -113,7 +113,7 @@ fn clashes_with(program: &[u8], arities: &[u8], before: &[usize], second: usize)
 }
 
 // A rule that clashes with an earlier one: where it opens.
-#[derive(Drop)]
+#[derive(Clone, Copy)]
 pub enum Overlap {
     At(usize),
     Nowhere,

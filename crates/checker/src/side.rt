@@ -7,7 +7,7 @@ use crate::node::{Node, node_of};
 use record::record_at;
 
 // Where a term stands: on a left side, on a right side, or in a question.
-#[derive(Drop)]
+#[derive(Clone, Copy)]
 pub enum Stand {
     Left,
     Right,
@@ -15,7 +15,7 @@ pub enum Stand {
 }
 
 // One record of a term: by which number it is refused (0: not), its parts and words, and the variables seen after it.
-#[derive(Drop)]
+#[derive(Clone, Copy)]
 pub struct Step {
     pub refusal: u8,
     pub parts: usize,
@@ -114,7 +114,7 @@ fn most(stand: Stand) -> usize
 }
 
 // A side read: by which number and at which place it is refused; or 0, where it ends, and the variables seen.
-#[derive(Drop)]
+#[derive(Clone, Copy)]
 pub struct Side {
     pub refusal: u8,
     pub at: usize,

@@ -12,14 +12,14 @@ use crate::rows::{Took, Turn, after_guard, after_succ, after_test, go, pay, take
 use crate::values::{Answer, Ending, Value, bound};
 
 // After some arguments: whether it goes on, and their values.
-#[derive(Drop)]
+#[derive(Clone, Copy)]
 pub struct Listed {
     pub turn: Turn,
     pub vals: [Value; 8],
 }
 
 // Before a right side: whether it goes on, where the right side stands, and its bindings.
-#[derive(Drop)]
+#[derive(Clone, Copy)]
 pub struct Entered {
     pub turn: Turn,
     pub at: usize,

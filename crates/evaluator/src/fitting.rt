@@ -7,7 +7,7 @@ use crate::values::Value;
 use rules::index::{span_of, word_at};
 
 // Whether it fits, the place after what was read (of a rule: of its right side), and the bindings.
-#[derive(Drop)]
+#[derive(Clone, Copy)]
 pub struct Found {
     pub ok: bool,
     pub at: usize,
@@ -15,7 +15,7 @@ pub struct Found {
 }
 
 // Whether a pattern fits, the place after it, and the variable that it binds, 8 where it binds none, to what is left of the value.
-#[derive(Drop)]
+#[derive(Clone, Copy)]
 pub struct Fitted {
     pub ok: bool,
     pub at: usize,

@@ -6,7 +6,7 @@ use rules::index::word_at;
 use words::terms::{Reach, arity, skip_many};
 
 // What has a first part that is evaluated before all else.
-#[derive(Drop)]
+#[derive(Clone, Copy)]
 pub enum Op {
     Succ,
     Handle,
@@ -14,7 +14,7 @@ pub enum Op {
 }
 
 // What a word is the root of: a constant, a variable, raise, a term with such a first part, a call of function number so and so.
-#[derive(Drop)]
+#[derive(Clone, Copy)]
 pub enum Kind {
     Data(u16),
     Var(usize),

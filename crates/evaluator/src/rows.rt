@@ -6,14 +6,14 @@ ghost use Rattle.evaluator.specs.Rows.{pay_of, go_of, after_succ, after_guard, a
 use crate::values::{Answer, Ending, Value};
 
 // After a part: it ends here, or goes on, so many parts further, with the steps left.
-#[derive(Drop)]
+#[derive(Clone, Copy)]
 pub enum Turn {
     Ends(Answer),
     Goes(u16, u32),
 }
 
 // After an argument: its value and the steps left, or the end.
-#[derive(Drop)]
+#[derive(Clone, Copy)]
 pub enum Took {
     Takes(Value, u32),
     Ends(Answer),

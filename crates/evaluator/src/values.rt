@@ -3,14 +3,14 @@ ghost use Rattle.std.specs.Prelude.{◌≡◌, get_or};
 ghost use Rattle.evaluator.specs.Values.{none};
 
 // succ so many times over the constant whose word is base: 1, 3 or 4.
-#[derive(Drop)]
+#[derive(Clone, Copy)]
 pub struct Value {
     pub succs: u32,
     pub base: u16,
 }
 
 // A value; an exception; stuck with so many succ signs outside; out of steps; too deep.
-#[derive(Drop)]
+#[derive(Clone, Copy)]
 pub enum Ending {
     Done(Value),
     Raised(u16),
@@ -20,14 +20,14 @@ pub enum Ending {
 }
 
 // How an evaluation ended, and the steps left of those allowed.
-#[derive(Drop)]
+#[derive(Clone, Copy)]
 pub struct Answer {
     pub end: Ending,
     pub left: u32,
 }
 
 // How an evaluation ended, and the steps that it took.
-#[derive(Drop)]
+#[derive(Clone, Copy)]
 pub struct Outcome {
     pub end: Ending,
     pub steps: u32,

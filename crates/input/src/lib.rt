@@ -6,7 +6,7 @@ ghost use Rattle.input.specs.Places.{Within};
 
 // Where the reading stands. The bytes of the chunk from `at` up to `end` are still to come. The line has `len` bytes in its buffer,
 // and `long` says that it did not fit there. While `open`, its end has not been met. `over`: there is no line any more.
-#[derive(Drop)]
+#[derive(Clone, Copy)]
 pub struct Input {
     pub at: usize,
     pub end: usize,

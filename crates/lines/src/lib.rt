@@ -84,7 +84,7 @@ fn write_bytes(field: &[u8], out: &mut [u8])
 }
 
 // A field read: how many bytes it stands for; or that it stands for none that fit.
-#[derive(Drop)]
+#[derive(Clone, Copy)]
 pub enum Decoded {
     Bytes(usize),
     Bad,

@@ -5,7 +5,7 @@ ghost use Rattle.own_lists.specs.Lists.{list_length, list_answer, list_written};
 use translator::Own;
 
 // The answer: the program is refused; the slice is shorter than the list; so many words are written.
-#[derive(Drop)]
+#[derive(Clone, Copy)]
 pub enum Answer {
     Refused,
     Short,

@@ -6,7 +6,7 @@ ghost use Rattle.record.specs.Record.{no_record, record_at};
 ghost use Rattle.theory.specs.Bytes.{body_length};
 
 // A record: its kind, its body (zero where the kind has none), and how many bytes it takes: none where the bytes end before it or in it.
-#[derive(Drop)]
+#[derive(Clone, Copy)]
 pub struct Record {
     pub kind: u8,
     pub body: u8,

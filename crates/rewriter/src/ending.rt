@@ -6,7 +6,7 @@ use rules::index::word_at;
 use turns::run::Ending;
 
 // The constants of values.
-#[derive(Drop)]
+#[derive(Clone, Copy)]
 pub enum Base {
     Zero,
     True,
@@ -14,7 +14,7 @@ pub enum Base {
 }
 
 // How rewriting ends.
-#[derive(Drop)]
+#[derive(Clone, Copy)]
 pub enum Said {
     // So many succ over a constant.
     Value(usize, Base),

@@ -12,7 +12,7 @@ use turns::each::start_each;
 use turns::run::start;
 
 // How rewriting ended, after how many steps.
-#[derive(Drop)]
+#[derive(Clone, Copy)]
 pub struct Answer {
     pub said: Said,
     pub steps: usize,

@@ -78,7 +78,7 @@ pub fn has_rules(index: &[usize], w: u16) -> bool
 }
 
 // A part of a list: from one place to another.
-#[derive(Drop)]
+#[derive(Clone, Copy)]
 pub struct Span {
     pub from: usize,
     pub to: usize,

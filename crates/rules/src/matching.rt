@@ -17,7 +17,7 @@ pub fn is_var(w: u16) -> bool
 }
 
 // Where each variable's words start and end in the subject, a slot for each of eight variables; both 0 where it has none.
-#[derive(Drop)]
+#[derive(Clone, Copy)]
 pub struct Bound {
     pub starts: [usize; 8],
     pub ends: [usize; 8],

@@ -14,7 +14,7 @@ use rules::matching::is_var;
 use words::slices::{copy_into, put};
 
 // The answer of a write that may not fit.
-#[derive(Drop)]
+#[derive(Clone, Copy)]
 pub enum Written {
     // So many words.
     Count(usize),
@@ -23,7 +23,7 @@ pub enum Written {
 }
 
 // What a word of a right side stands for.
-#[derive(Drop)]
+#[derive(Clone, Copy)]
 pub enum Shown {
     // One word.
     Word(u16),

@@ -7,7 +7,7 @@ use numbers::word_of_byte;
 use record::record_at;
 
 // The root of a term: its word, how many parts follow, the word of its exception (0 where it has none), the place behind it.
-#[derive(Drop)]
+#[derive(Clone, Copy)]
 pub struct Root {
     pub word: u16,
     pub parts: u8,

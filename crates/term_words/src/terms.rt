@@ -27,7 +27,7 @@ fn put_root(dst: &mut [u16], at: usize, word: u16, exception: u16) -> usize
 }
 
 // Where reading and writing have come to: the place in the bytes, the place among the words.
-#[derive(Drop)]
+#[derive(Clone, Copy)]
 pub struct Ends {
     pub from: usize,
     pub to: usize,

@@ -14,7 +14,7 @@ use numbers::{byte_of_size, word_of_size};
 use rules::put_list;
 
 // The answer: so many words are written; or the slice is shorter, and nothing is.
-#[derive(Drop)]
+#[derive(Clone, Copy)]
 pub enum Own {
     Count(usize),
     Short,

@@ -16,7 +16,7 @@ use term_words::roots::arity;
 use term_words::terms::{size_of, term_words, terms_words};
 
 // A rule in the bytes: the words of its left side and of its right side, and where the right side begins.
-#[derive(Drop)]
+#[derive(Clone, Copy)]
 pub struct Sizes {
     pub left: u16,
     pub right: u16,

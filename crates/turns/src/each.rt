@@ -63,7 +63,7 @@ fn look(
 }
 
 // What follows a turn, and the number on the path of the place that it rewrites.
-#[derive(Drop)]
+#[derive(Clone, Copy)]
 pub struct Crossed {
     pub next: Move,
     pub number: usize,

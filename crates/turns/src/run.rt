@@ -17,7 +17,7 @@ use step::{Next, next_into};
 use words::slices::{copy_into, zero_from};
 
 // How a run ends.
-#[derive(Drop)]
+#[derive(Clone, Copy)]
 pub enum Ending {
     // Nothing fits any more.
     Done,
@@ -28,7 +28,7 @@ pub enum Ending {
 }
 
 // How a run ended, after how many steps, and the words of its last term.
-#[derive(Drop)]
+#[derive(Clone, Copy)]
 pub struct Ran {
     pub ending: Ending,
     pub steps: usize,
@@ -36,7 +36,7 @@ pub struct Ran {
 }
 
 // The same before the buffers are set in order, and whether the term is in the second.
-#[derive(Drop)]
+#[derive(Clone, Copy)]
 pub struct Driven {
     pub ending: Ending,
     pub steps: usize,
@@ -45,7 +45,7 @@ pub struct Driven {
 }
 
 // What follows a turn: the run ends, with its count of steps, or it goes on with a term of so many words.
-#[derive(Drop)]
+#[derive(Clone, Copy)]
 pub enum Move {
     Stop(Ending, usize),
     Go(usize),
@@ -63,7 +63,7 @@ pub(crate) fn ended(ending: Ending, steps: usize, len: usize, flip: bool) -> Dri
 }
 
 // What a round comes to: what follows it, the steps made up to its turn, and the number on the path of the place that the turn rewrites.
-#[derive(Drop)]
+#[derive(Clone, Copy)]
 pub struct Outcome {
     pub next: Move,
     pub steps: usize,

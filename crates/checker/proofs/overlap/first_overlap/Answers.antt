@@ -1,0 +1,21 @@
+-- `checker::overlap::first_overlap` meets its contract. The loop's invariant: no rule before `j` clashes with an earlier one.
+use Prim.Native.Nat.{◌-◌}
+use mathlib.Core.Path.{◌≡◌, ◌∙◌, refl, sym}
+use mathlib.Core.List.{[]}
+use lib.ListN.{length, take, drop}
+use borrow.Author.Rules.{rules}
+use Rattle.checker.specs.Overlap.{first_clash}
+use Rattle.checker.proofs.overlap.Laws.{first_out, first-yes, first-no}
+use Rattle.checker.proofs.overlap.first_overlap.Goals as goal
+
+pub loop-j-init : goal.loop-j-init
+loop-j-init c = refl
+
+pub returns-then-clashes_with : goal.returns-then-clashes_with
+returns-then-clashes_with c = sym (c.loop-j.invariant ∙ first-yes _ _ _ _ c.loop-j-test.true _ c.clashes_with.ensures c.if-clashes_with.true)
+
+pub loop-j-preserved : goal.loop-j-preserved
+loop-j-preserved c = c.loop-j.invariant ∙ first-no _ _ _ _ c.loop-j-test.true _ c.clashes_with.ensures c.if-clashes_with.false
+
+pub returns : goal.returns
+returns c = sym (c.loop-j.invariant ∙ first_out _ _ _ _ c.loop-j-test.false)

@@ -1,0 +1,18 @@
+-- `place::climb` meets its contract. The loop's invariant: of what is at or below the place number n, only the place itself is left.
+use mathlib.Core.Path.{◌≡◌, sym, ◌∙◌}
+use Prim.Native.Nat.{◌-◌, ◌≤◌}
+use native.Mathlib.Omega.{arith}
+use borrow.Author.Rules.{rules}
+use lib.ListN.{get_or}
+use Rattle.rules.specs.Finding.{fitting_of}
+use Rattle.place.specs.Path.{here_in, site_at}
+use Rattle.place.proofs.Noted.{number-within, climb-found, climb-ended, climb-on}
+use Rattle.place.proofs.climb.Given as goal
+
+abbrev pub invariant-loop-site : goal.invariant-loop-site
+invariant-loop-site l =
+    let find = fitting_of l.arities l.standing l.own l.standing_index l.own_index in
+    (l.n ≤ l.deepest) × (site_at l.arities find l.term (get_or l.path l.n 0) ≡ here_in find l.term (get_or l.path l.n 0))
+
+abbrev pub decreases-loop-site : goal.decreases-loop-site
+decreases-loop-site l = l.n
