@@ -61,8 +61,8 @@ returns-in-25 c = record {
 
 pub returns-in_default : goal.returns-in_default
 returns-in_default c =
-        let r = c.in-16.rest in
+    let a = c.args in
     record {
-      by_index = λ p. none_read _ _ p _ _ r.0.0.0.0.0.0.0.0.1 r.0.0.0.0.0.0.0.1 r.0.0.0.0.0.0.1 r.0.0.0.0.0.1 c.requires r.0.0.0.0.1 r.0.0.0.1 r.0.0.1 r.0.1 r.1;
+      by_index = λ p. none_read a.exceptions a.arities.now p a.kind a.body (omega arith) (omega arith) (omega arith) (omega arith) c.requires (omega arith) (omega arith) (omega arith) (omega arith) (omega arith);
       small_node = tt;
     }

@@ -1,5 +1,5 @@
 -- `checker::side::read_side` meets its contract. The loop's invariant: the side's answer is that of what is still owed. The measure is the bytes left.
-use Prim.Native.Nat.{◌+◌, ◌-◌, ◌*◌, ◌≤◌}
+use Prim.Native.Nat.{◌+◌, ◌-◌, ◌*◌, ◌<◌, ◌≤◌}
 use mathlib.Core.Path.{◌≡◌, refl, sym, ◌∙◌}
 use native.Mathlib.Omega.{arith}
 use lib.ListN.{length}
@@ -33,7 +33,7 @@ returns-then-refusal-ne0 c =
 
 pub returns-then-over : goal.returns-then-over
 returns-then-over c =
-    let big = ltb-true c.most.result (c.loop-due.count + c.step_over-s.result.words) c.if-over.true in
+    let big : c.most.result < c.loop-due.count + c.step_over-s.result.words = c.if-over.true in
     c.refused_side-then-over.ensures
     ∙ sym (c.loop-due.invariant.0
     ∙ scan-big _ _ _ _ _ _ _ _ c.loop-due-test.true _ c.record_at-r.ensures c.if-r-eq0.false _ (c.step_over-s.ensures.by_index _) c.if-refusal-ne0.false (rw c.most.ensures at big))
@@ -44,7 +44,7 @@ loop-due-smaller c =
 
 pub loop-due-preserved : goal.loop-due-preserved
 loop-due-preserved c =
-    let small = ltb-false c.most.result (c.loop-due.count + c.step_over-s.result.words) c.if-over.false in
+    let small : c.loop-due.count + c.step_over-s.result.words ≤ c.most.result = c.if-over.false in
     let u = rw c.most.ensures at small in (
       c.loop-due.invariant.0
           ∙ scan-on _ _ _ _ _ _ _ _ c.loop-due-test.true _ c.record_at-r.ensures c.if-r-eq0.false _ (c.step_over-s.ensures.by_index _) c.if-refusal-ne0.false u,

@@ -1,0 +1,19 @@
+-- `lengths::own_rules_length` meets its contract. The invariant is that of `rules::own_rules`, of writing into nothing; and a bound.
+use mathlib.Core.Path.{sym, subst}
+use mathlib.Core.List.{[]}
+use Prim.Native.Nat.{ℕ, ◌+◌, ◌-◌, ◌*◌, ◌≤◌}
+use native.Mathlib.Omega.{arith}
+use lib.ListN.{length, get_or}
+use borrow.Author.Rules.{rules}
+use Rattle.translator.specs.Opened.{rule_if}
+use Rattle.translator.specs.Listed.{rules_in}
+use Rattle.translator.proofs.Laws.{Scanned, Turn, scanned-start, scanned-end, turn-of, turn-opened, turn-next}
+use Rattle.translator.proofs.Counts.{wrote-empty}
+use Rattle.translator.proofs.lengths.own_rules_length.Given as goal
+
+abbrev pub invariant-loop-i : goal.invariant-loop-i
+invariant-loop-i l =
+    Scanned l.f l.n l.arities l.program l.openings (rules_in l.program) 0 [] [] l.i l.count × (l.count ≤ 2002 * l.i) × (l.i ≤ length l.openings)
+
+abbrev pub decreases-loop-i : goal.decreases-loop-i
+decreases-loop-i l = length l.openings - l.i
