@@ -65,7 +65,9 @@ put_list-requires c =
         let held : let a = c.args in Ready a.arities.now a.program.now a.openings.now c.word_of_size-n.result c.byte_of_size-m.result =
         let a = c.args in
     ready-as a.arities.now a.program.now a.openings.now a.exceptions a.functions c.word_of_size-n.result c.byte_of_size-m.result c.requires c.word_of_size-n.ensures c.byte_of_size-m.ensures in
-    let room : let a = c.args in length (list c) ≤ length a.dst.now =
+    let list : List ℕ =
+        let a = c.args in stored_rules (own_in a.arities.now a.program.now c.word_of_size-n.result c.byte_of_size-m.result) in
+    let room : let a = c.args in length list ≤ length a.dst.now =
         let h = c.if-dst-size.false in omega (arith, h, c.list_length-size.ensures) in
     record {
       listed = (held.listed, held.small, held.few);
@@ -79,7 +81,7 @@ returns c =
     ready-as a.arities.now a.program.now a.openings.now a.exceptions a.functions c.word_of_size-n.result c.byte_of_size-m.result c.requires c.word_of_size-n.ensures c.byte_of_size-m.ensures in
     let list : List ℕ =
         let a = c.args in stored_rules (own_in a.arities.now a.program.now c.word_of_size-n.result c.byte_of_size-m.result) in
-    let room : let a = c.args in length (list c) ≤ length a.dst.now =
+    let room : let a = c.args in length list ≤ length a.dst.now =
         let h = c.if-dst-size.false in omega (arith, h, c.list_length-size.ensures) in
     
     let a = c.args in

@@ -20,6 +20,6 @@ size_of-ends-requires c =
 pub returns : goal.returns
 returns c D t h e =
     let a = c.args in
-    c.type_size.ensures.1
+    c.size_of-ends.ensures.to_value
     ∙ (asked-asks a.arities.now a.question.now c.requires).count
     ∙ ap (λ (u : Term). length (words (tree u))) (question-stands D a.arities.now a.question.now t h e).1

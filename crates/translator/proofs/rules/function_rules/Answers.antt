@@ -19,13 +19,13 @@ call_rules-guarded-requires c =
         stored_rules (call_rules (16 + c.word_of_byte-k.result) c.word_of_byte-n.result) in
     let last : List ℕ =
         let a = c.args in rules_words a.f c.arity_of-arity.result (rules_in a.program.now) in
-    let room : let a = c.args in Room (first c ++ last c) a.at a.dst.now =
-        let all : let a = c.args in stored_rules (rules_for a.arities.now a.program.now a.f) ≡ first c ++ last c =
+    let all : let a = c.args in stored_rules (rules_for a.arities.now a.program.now a.f) ≡ first ++ last =
         let a = c.args in
     let n = c.arity_of-arity.ensures in
     fun-words a.arities.now a.program.now a.f (16 + c.word_of_byte-k.result) c.word_of_byte-n.result c.arity_of-arity.result
     (ap (16 +◌) c.word_of_byte-k.ensures.value) (c.word_of_byte-n.ensures.value ∙ n) n in
-     room_as c.args.at c.args.dst.now all c.requires.room in
+    let room : let a = c.args in Room (first ++ last) a.at a.dst.now =
+        room_as c.args.at c.args.dst.now all c.requires.room in
     
     let a = c.args in
     record {
@@ -39,13 +39,13 @@ own_rules-requires c =
         stored_rules (call_rules (16 + c.word_of_byte-k.result) c.word_of_byte-n.result) in
     let last : List ℕ =
         let a = c.args in rules_words a.f c.arity_of-arity.result (rules_in a.program.now) in
-    let room : let a = c.args in Room (first c ++ last c) a.at a.dst.now =
-        let all : let a = c.args in stored_rules (rules_for a.arities.now a.program.now a.f) ≡ first c ++ last c =
+    let all : let a = c.args in stored_rules (rules_for a.arities.now a.program.now a.f) ≡ first ++ last =
         let a = c.args in
     let n = c.arity_of-arity.ensures in
     fun-words a.arities.now a.program.now a.f (16 + c.word_of_byte-k.result) c.word_of_byte-n.result c.arity_of-arity.result
     (ap (16 +◌) c.word_of_byte-k.ensures.value) (c.word_of_byte-n.ensures.value ∙ n) n in
-     room_as c.args.at c.args.dst.now all c.requires.room in
+    let room : let a = c.args in Room (first ++ last) a.at a.dst.now =
+        room_as c.args.at c.args.dst.now all c.requires.room in
     
     let a = c.args in
     let n = c.arity_of-arity.ensures in
@@ -57,7 +57,11 @@ own_rules-requires c =
 
 pub returns : goal.returns
 returns c =
-    let all : let a = c.args in stored_rules (rules_for a.arities.now a.program.now a.f) ≡ first c ++ last c =
+    let first : List ℕ =
+        stored_rules (call_rules (16 + c.word_of_byte-k.result) c.word_of_byte-n.result) in
+    let last : List ℕ =
+        let a = c.args in rules_words a.f c.arity_of-arity.result (rules_in a.program.now) in
+    let all : let a = c.args in stored_rules (rules_for a.arities.now a.program.now a.f) ≡ first ++ last =
         let a = c.args in
     let n = c.arity_of-arity.ensures in
     fun-words a.arities.now a.program.now a.f (16 + c.word_of_byte-k.result) c.word_of_byte-n.result c.arity_of-arity.result

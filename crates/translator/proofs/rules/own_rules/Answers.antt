@@ -34,7 +34,7 @@ loop-i-preserved c =
     
     let a = c.args in
     turn-next a.f a.n a.arities.now a.program.now a.openings.now (rules_in a.program.now) a.at a.dst.now c.requires.n_bound.1 c.loop-i.dst c.loop-i.i c.loop-i.next turn
-    c.put_rule_if-next.new.1.1.1.1.1.0 c.put_rule_if-next.result c.put_rule_if-next.ensures
+    c.put_rule_if-next.new.dst c.put_rule_if-next.result c.put_rule_if-next.ensures
 
 pub shape_of-dst : goal.shape_of-dst
 shape_of-dst c = wrote-length c.loop-i.invariant.wrote
