@@ -1,4 +1,4 @@
-/* Puffinest: the hosts' door. Link with the archive that `rt staticlib bridge` writes (x86-64).
+/* Puffinest: the hosts' door. Link with the archive that `tools/built library bridge` writes (x86-64).
  *
  * Both calls take any bytes at all; the caller need have checked nothing. How a program and a question are written, and what each built-in
  * costs in steps and levels, is in docs/FORMAT.md. Either may call the built-ins 0 to 10: +, *, not, <=, <, =, >=, >, <>, div, mod; any other

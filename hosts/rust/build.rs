@@ -1,4 +1,4 @@
-//! Tells where the static library is that `rt staticlib bridge` writes.
+//! Tells where the static library is that `tools/built library bridge` writes.
 
 use std::env;
 use std::path::Path;

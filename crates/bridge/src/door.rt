@@ -1,4 +1,4 @@
-// The hosts' door: the two calls under C's calling convention. A slice passes as its pointer and its length.
+// The hosts' door: the two calls with the report as seven words of a slice that is lent. The static library bridge_c hands them to C.
 ghost use Rattle.std.specs.Prelude.{◌≡◌, ◌≤◌, length};
 ghost use Rattle.theory.specs.Buffers.{over};
 ghost use Rattle.theory.specs.Answers.{evaluate, rewrite};
@@ -22,8 +22,7 @@ fn tell(report: &mut [u32], r: Report)
     report[6] = r.steps;
 }
 
-#[unsafe(no_mangle)]
-pub extern "C" fn puffinest_evaluate(
+pub fn puffinest_evaluate(
     program: &[u8],
     question: &[u8],
     steps: u32,
@@ -39,8 +38,7 @@ pub extern "C" fn puffinest_evaluate(
     tell(report, r);
 }
 
-#[unsafe(no_mangle)]
-pub extern "C" fn puffinest_rewrite(
+pub fn puffinest_rewrite(
     program: &[u8],
     question: &[u8],
     steps: u32,

@@ -1,6 +1,6 @@
 -- Writes one after the other are one write; the turns of a loop over numbers from 0.
-use mathlib.Core.Path.{◌≡◌, refl, sym, ap, ◌∙◌}
-use mathlib.Core.List.{List, [], ◌∷◌, ◌++◌, append_assoc, append-nil}
+use mathlib.Core.Path.{◌≡◌, sym, ap, ◌∙◌}
+use mathlib.Core.List.{List, [], ◌++◌, append_assoc, append-nil}
 use Prim.Native.Nat.{ℕ, zero, suc, ◌+◌, ◌-◌, ◌≤◌, ◌<◌}
 use native.Mathlib.Nat.{add_assoc}
 use native.Mathlib.Numerals.{add-one}
@@ -9,7 +9,7 @@ use lib.ListN.{length, length-append}
 use Rattle.theory.specs.Buffers.{put}
 use Rattle.words.proofs.Writes.{put-append, put-none, length-put}
 use Rattle.theory.specs.Tree.{Rule}
-use Rattle.theory.specs.Words.{stored_rules, stored_rule}
+use Rattle.theory.specs.Words.{stored_rules}
 use Rattle.theory.specs.Translation.{gather, numbers}
 use Rattle.theory.proofs.Readability.{list-append}
 use Rattle.generated.specs.Wrote.{Room, Wrote}

@@ -7,8 +7,8 @@ use native.Mathlib.Omega.{arith}
 use lib.Dec.{eqb}
 use lib.ListN.{length, get_or, set, length-set}
 use lib.Seq.{get_or-set_same, get_or-set_other}
-use Rattle.theory.specs.Syntax.{many, pick}
-use Rattle.theory.specs.Words.{words, all_words}
+use Rattle.theory.specs.Syntax.{pick}
+use Rattle.theory.specs.Words.{all_words}
 use Rattle.theory.specs.Translation.{trees}
 use Rattle.theory.specs.Bytes.{TermRecord, record_parts, first_terms}
 use Rattle.theory.proofs.SidesRefuse.{record-counts}

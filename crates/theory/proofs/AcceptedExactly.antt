@@ -1,5 +1,5 @@
 -- ACCEPTED EXACTLY: bytes are accepted where they are the encoding of a valid program, or of a valid question, and only there.
-use Prim.Native.Nat.{ℕ, suc, ◌+◌}
+use Prim.Native.Nat.{ℕ, suc}
 use mathlib.Core.Path.{◌≡◌, sym, ap, ◌∙◌}
 use mathlib.Core.Logic.{◌↔◌}
 use mathlib.Core.Bool.{Bool}

@@ -1,6 +1,5 @@
 -- `checker::check_program` meets its contract.
 use mathlib.Core.Path.{◌∙◌}
-use borrow.Author.Rules.{rules}
 use Rattle.checker.proofs.Answer.{program-long, program-refused, program-settled}
 use Rattle.checker.proofs.check_program.Goals as goal
 

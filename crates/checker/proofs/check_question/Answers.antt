@@ -1,5 +1,4 @@
 -- `checker::check_question` meets its contract.
-use borrow.Author.Rules.{rules}
 use Rattle.checker.proofs.Answer.{asked-refused, asked-more, asked-good}
 use Rattle.checker.proofs.check_question.Goals as goal
 

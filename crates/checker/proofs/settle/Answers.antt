@@ -1,7 +1,6 @@
 -- `checker::settle` meets its contract.
 use mathlib.Core.Path.{◌∙◌}
 use native.Mathlib.Omega.{arith}
-use borrow.Author.Rules.{rules}
 use Rattle.checker.proofs.program.Rule.{own-part}
 use Rattle.checker.proofs.Answer.{openings-part, settled_at, settled-nowhere}
 use Rattle.checker.proofs.settle.Goals as goal

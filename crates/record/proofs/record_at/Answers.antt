@@ -1,7 +1,6 @@
 -- `record::record_at` meets its contract.
 use mathlib.Core.Path.{sym, ◌∙◌}
 use native.Mathlib.Omega.{arith}
-use borrow.Author.Rules.{rules}
 use Rattle.record.proofs.Laws.{nothing_left, cut-short, bare, with-one, with_two}
 use Rattle.record.proofs.record_at.Goals as goal
 

@@ -1,6 +1,5 @@
 -- `checker::declarations::declare_exception` meets its contract.
 use mathlib.Core.Path.{◌∙◌}
-use borrow.Author.Rules.{rules}
 use Rattle.checker.proofs.declarations.Laws.{exception-late, exception-many, exception-other, exception-next}
 use Rattle.checker.proofs.declarations.declare_exception.Goals as goal
 

@@ -1,6 +1,5 @@
 -- `checker::declarations::declare_function` meets its contract.
 use mathlib.Core.Path.{◌∙◌}
-use borrow.Author.Rules.{rules}
 use Rattle.checker.proofs.declarations.Laws.{function-late, function-many, function-other, function-wide, function-next}
 use Rattle.checker.proofs.declarations.declare_function.Goals as goal
 

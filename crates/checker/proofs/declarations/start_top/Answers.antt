@@ -1,5 +1,4 @@
 -- `checker::declarations::start_top` meets its contract.
-use borrow.Author.Rules.{rules}
 use Rattle.checker.specs.Declarations.{start_top}
 use Rattle.checker.proofs.declarations.start_top.Goals as goal
 

@@ -1,5 +1,4 @@
 -- `checker::overlap::byte_at` meets its contract.
-use borrow.Author.Rules.{rules}
 use Rattle.checker.proofs.overlap.Laws.{read_out}
 use Rattle.checker.proofs.overlap.byte_at.Goals as goal
 

@@ -1,7 +1,6 @@
 -- `checker::overlap::clash` meets its contract.
 use mathlib.Core.Path.{◌∙◌, sym}
 use native.Mathlib.Omega.{arith}
-use borrow.Author.Rules.{rules}
 use Rattle.checker.proofs.overlap.Laws.{clash-out, clash-out2, clash-other, clash-found}
 use Rattle.checker.proofs.overlap.clash.Goals as goal
 

@@ -1,9 +1,5 @@
 -- `checker::overlap::clashes_with` meets its contract. The loop's invariant: a clash is one with a rule from `i` on.
-use Prim.Native.Nat.{◌-◌}
-use mathlib.Core.Path.{◌≡◌, ◌∙◌, refl, sym}
-use lib.ListN.{length, drop}
-use borrow.Author.Rules.{rules}
-use Rattle.checker.specs.Overlap.{any_clash}
+use mathlib.Core.Path.{◌∙◌, refl, sym}
 use Rattle.checker.proofs.overlap.Laws.{any_out, any-yes, any-no}
 use Rattle.checker.proofs.overlap.clashes_with.Goals as goal
 

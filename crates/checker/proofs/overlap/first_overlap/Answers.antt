@@ -1,10 +1,5 @@
 -- `checker::overlap::first_overlap` meets its contract. The loop's invariant: no rule before `j` clashes with an earlier one.
-use Prim.Native.Nat.{◌-◌}
-use mathlib.Core.Path.{◌≡◌, ◌∙◌, refl, sym}
-use mathlib.Core.List.{[]}
-use lib.ListN.{length, take, drop}
-use borrow.Author.Rules.{rules}
-use Rattle.checker.specs.Overlap.{first_clash}
+use mathlib.Core.Path.{◌∙◌, refl, sym}
 use Rattle.checker.proofs.overlap.Laws.{first_out, first-yes, first-no}
 use Rattle.checker.proofs.overlap.first_overlap.Goals as goal
 

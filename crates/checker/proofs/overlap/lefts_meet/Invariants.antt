@@ -1,10 +1,6 @@
 -- `checker::overlap::lefts_meet` meets its contract. The loop's invariant: the left sides meet where what is left of them does.
-use mathlib.Core.Path.{◌≡◌, ◌∙◌, refl, sym}
-use native.Mathlib.Omega.{arith}
-use borrow.Author.Rules.{rules}
-use borrow.Author.Tests.{not-true, not-false}
+use mathlib.Core.Path.{◌≡◌}
 use Rattle.checker.specs.Overlap.{args_meet}
-use Rattle.checker.proofs.overlap.Laws.{args_none, args-no, args-yes}
 use Rattle.checker.proofs.overlap.lefts_meet.Given as goal
 
 abbrev pub invariant-loop-left : goal.invariant-loop-left

@@ -1,10 +1,8 @@
 -- `checker::overlap::past_pattern` meets its contract. The loop's invariant: the pattern ends where the one from `at` on does.
 use Prim.Native.Nat.{◌+◌, ◌-◌}
-use mathlib.Core.Path.{◌≡◌, ◌∙◌, refl, sym}
+use mathlib.Core.Path.{◌≡◌}
 use lib.ListN.{length, drop}
-use borrow.Author.Rules.{rules}
 use Rattle.checker.specs.Overlap.{pat_len}
-use Rattle.checker.proofs.overlap.Laws.{pat-out, pat-var, pat-end, pat-succ}
 use Rattle.checker.proofs.overlap.past_pattern.Given as goal
 
 abbrev pub invariant-loop-at : goal.invariant-loop-at

@@ -1,9 +1,5 @@
 -- `checker::overlap::patterns_meet` meets its contract. The loop's invariant: the two patterns meet where those from `i` and `j` on do.
-use Prim.Native.Nat.{◌-◌}
-use mathlib.Core.Path.{◌≡◌, ◌∙◌, refl, sym}
-use lib.ListN.{length, drop}
-use borrow.Author.Rules.{rules}
-use Rattle.checker.specs.Overlap.{heads_meet}
+use mathlib.Core.Path.{◌∙◌, refl, sym}
 use Rattle.checker.proofs.overlap.Laws.{heads-out, heads-out2, heads-var, heads-var2, heads-differ, heads-base, heads-succ}
 use Rattle.checker.proofs.overlap.patterns_meet.Goals as goal
 

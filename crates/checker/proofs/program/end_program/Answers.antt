@@ -1,7 +1,6 @@
 -- `checker::program::end_program` meets its contract.
 use mathlib.Core.Path.{◌∙◌}
 use native.Mathlib.Omega.{arith}
-use borrow.Author.Rules.{rules}
 use Rattle.checker.proofs.program.Rule.{ruled-part, lost-low, end-lost, end_more, end-here}
 use Rattle.checker.proofs.program.end_program.Goals as goal
 

@@ -1,12 +1,8 @@
 -- `checker::program::first_lost` meets its contract. The loop's invariant: the functions before `f` have a rule.
 use Prim.Native.Nat.{◌+◌, ◌-◌}
-use mathlib.Core.Path.{◌≡◌, ◌∙◌, refl, sym}
-use native.Mathlib.Omega.{arith}
+use mathlib.Core.Path.{◌≡◌}
 use lib.ListN.{length, drop}
-use borrow.Author.Rules.{rules}
-use borrow.Author.Tests.{not-true, not-false}
 use Rattle.checker.specs.Program.{lost_from}
-use Rattle.checker.proofs.program.Lost.{lost-out, lost-here, lost-later}
 use Rattle.checker.proofs.program.first_lost.Given as goal
 
 abbrev pub invariant-loop-f : goal.invariant-loop-f

@@ -1,11 +1,6 @@
 -- `checker::program::parse` meets its contract. The loop's invariant: the answer is that of the turns still to come. The measure is the bytes left, and nothing at the end.
-use Prim.Native.Nat.{suc, ◌-◌}
-use mathlib.Core.Path.{◌≡◌, ◌∙◌, sym}
-use lib.ListN.{length}
-use borrow.Author.Rules.{rules}
-use Rattle.checker.specs.Declarations.{Kept}
-use Rattle.checker.specs.Program.{turns, parse_of}
-use Rattle.checker.proofs.program.Turns.{parse-starts, start-kept, parse-goes, goes_kept, parse-ends, left_over, parse-falls}
+use mathlib.Core.Path.{◌∙◌, sym}
+use Rattle.checker.proofs.program.Turns.{parse-starts, start-kept, parse-goes, goes_kept, parse-ends, parse-falls}
 use Rattle.checker.proofs.program.parse.Goals as goal
 
 pub loop-top-init : goal.loop-top-init
@@ -22,6 +17,6 @@ loop-top-preserved c = (c.loop-top.invariant.0 ∙ parse-goes _ _ _ c.loop-top-t
 
 pub returns : goal.returns
 returns c = record {
-      value = sym (c.loop-top.invariant.0 ∙ parse-ends _ _ c.loop-top-test.false);
-      kept = c.loop-top.invariant.1;
-    }
+  value = sym (c.loop-top.invariant.0 ∙ parse-ends _ _ c.loop-top-test.false);
+  kept = c.loop-top.invariant.1;
+}

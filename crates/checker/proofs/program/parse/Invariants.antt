@@ -1,11 +1,10 @@
 -- `checker::program::parse` meets its contract. The loop's invariant: the answer is that of the turns still to come. The measure is the bytes left, and nothing at the end.
 use Prim.Native.Nat.{suc, ◌-◌}
-use mathlib.Core.Path.{◌≡◌, ◌∙◌, sym}
+use mathlib.Core.Path.{◌≡◌}
 use lib.ListN.{length}
-use borrow.Author.Rules.{rules}
 use Rattle.checker.specs.Declarations.{Kept}
 use Rattle.checker.specs.Program.{turns, parse_of}
-use Rattle.checker.proofs.program.Turns.{parse-starts, start-kept, parse-goes, goes_kept, parse-ends, left_over, parse-falls}
+use Rattle.checker.proofs.program.Turns.{left_over}
 use Rattle.checker.proofs.program.parse.Given as goal
 
 abbrev pub invariant-loop-top : goal.invariant-loop-top

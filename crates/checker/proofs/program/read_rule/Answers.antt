@@ -1,6 +1,5 @@
 -- `checker::program::read_rule` meets its contract.
 use mathlib.Core.Path.{◌∙◌}
-use borrow.Author.Rules.{rules}
 use Rattle.checker.proofs.program.Rule.{rule-many, rule-other, rule-next}
 use Rattle.checker.proofs.program.read_rule.Goals as goal
 

@@ -1,7 +1,6 @@
 -- `checker::program::read_sides` meets its contract.
 use mathlib.Core.Path.{◌∙◌}
 use native.Mathlib.Omega.{arith}
-use borrow.Author.Rules.{rules}
 use Rattle.checker.proofs.program.Rule.{left-refused, right-refused, rule-read, own-part}
 use Rattle.checker.proofs.program.read_sides.Goals as goal
 

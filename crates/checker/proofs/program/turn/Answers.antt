@@ -1,7 +1,6 @@
 -- `checker::program::turn` meets its contract.
 use mathlib.Core.Path.{◌∙◌}
 use native.Mathlib.Omega.{arith}
-use borrow.Author.Rules.{rules}
 use Rattle.record.proofs.Laws.{record-fits}
 use Rattle.checker.proofs.program.Turns.{turn-ends, turn-exception, turn-function, turn-rule, turn_end, turn-unknown}
 use Rattle.checker.proofs.program.turn.Goals as goal

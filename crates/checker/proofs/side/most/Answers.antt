@@ -1,6 +1,5 @@
 -- `checker::side::most` meets its contract.
 use mathlib.Core.Path.{sym, ap}
-use borrow.Author.Rules.{rules}
 use Rattle.checker.specs.Side.{most_of}
 use Rattle.checker.proofs.side.most.Goals as goal
 

@@ -1,11 +1,7 @@
 -- `checker::side::read_side` meets its contract. The loop's invariant: the side's answer is that of what is still owed. The measure is the bytes left.
-use Prim.Native.Nat.{◌+◌, ◌-◌, ◌*◌, ◌<◌, ◌≤◌}
+use Prim.Native.Nat.{◌+◌, ◌<◌, ◌≤◌}
 use mathlib.Core.Path.{◌≡◌, refl, sym, ◌∙◌}
 use native.Mathlib.Omega.{arith}
-use lib.ListN.{length}
-use borrow.Author.Rules.{rules}
-use borrow.Author.Tests.{ltb-true, ltb-false}
-use Rattle.checker.specs.Side.{scan_from}
 use Rattle.record.proofs.Laws.{record-fits}
 use Rattle.checker.proofs.side.Scan.{most-small, scan-none, scan-ends, scan-refused, scan-big, scan-on}
 use Rattle.checker.proofs.side.read_side.Goals as goal

@@ -3,7 +3,6 @@ use mathlib.Core.Path.{sym}
 use mathlib.Core.List.{List, ◌++◌}
 use Prim.Native.Nat.{ℕ}
 use native.Mathlib.Omega.{arith}
-use borrow.Author.Rules.{rules}
 use Rattle.theory.specs.Tree.{Rule}
 use Rattle.theory.specs.Translation.{raise_rule, handle_rule, same_rule, other_rule, gather, numbers}
 use Rattle.generated.specs.Wrote.{Room}
@@ -25,10 +24,9 @@ last3 n = below handle_rule n ++ last2 n
 
 pub raise_rules-raised-requires : goal.raise_rules-raised-requires
 raise_rules-raised-requires c =
-        let all : Room (below raise_rule c.args.n ++ last3 c.args.n) c.args.at c.args.dst.now =
-        let n = c.args.n in
+    let all : Room (below raise_rule c.args.n ++ last3 c.args.n) c.args.at c.args.dst.now =
+    let n = c.args.n in
     room_as c.args.at c.args.dst.now (list-four (rs raise_rule n) (rs handle_rule n) (rs same_rule n) (rs (others n) n)) c.requires.room in
-    
     let n = c.args.n in
     record {
       n_bound = omega arith;
@@ -37,14 +35,12 @@ raise_rules-raised-requires c =
 
 pub handle_rules-handled-requires : goal.handle_rules-handled-requires
 handle_rules-handled-requires c =
-        let room3 : Room (last3 c.args.n) c.raise_rules-raised.result c.raise_rules-raised.new.dst =
-        let all : Room (below raise_rule c.args.n ++ last3 c.args.n) c.args.at c.args.dst.now =
-        let n = c.args.n in
+    let room3 : Room (last3 c.args.n) c.raise_rules-raised.result c.raise_rules-raised.new.dst =
+    let all : Room (below raise_rule c.args.n ++ last3 c.args.n) c.args.at c.args.dst.now =
+    let n = c.args.n in
     room_as c.args.at c.args.dst.now (list-four (rs raise_rule n) (rs handle_rule n) (rs same_rule n) (rs (others n) n)) c.requires.room in
-    
     let n = c.args.n in
     room-then (below raise_rule n) (last3 n) c.args.at c.raise_rules-raised.result c.args.dst.now c.raise_rules-raised.new.dst c.raise_rules-raised.ensures all in
-    
     let n = c.args.n in
     record {
       n_bound = omega arith;
@@ -53,18 +49,15 @@ handle_rules-handled-requires c =
 
 pub equal_rules-same-requires : goal.equal_rules-same-requires
 equal_rules-same-requires c =
-        let room2 : Room (last2 c.args.n) c.handle_rules-handled.result c.handle_rules-handled.new.dst =
-        let room3 : Room (last3 c.args.n) c.raise_rules-raised.result c.raise_rules-raised.new.dst =
-        let all : Room (below raise_rule c.args.n ++ last3 c.args.n) c.args.at c.args.dst.now =
-        let n = c.args.n in
+    let room2 : Room (last2 c.args.n) c.handle_rules-handled.result c.handle_rules-handled.new.dst =
+    let room3 : Room (last3 c.args.n) c.raise_rules-raised.result c.raise_rules-raised.new.dst =
+    let all : Room (below raise_rule c.args.n ++ last3 c.args.n) c.args.at c.args.dst.now =
+    let n = c.args.n in
     room_as c.args.at c.args.dst.now (list-four (rs raise_rule n) (rs handle_rule n) (rs same_rule n) (rs (others n) n)) c.requires.room in
-    
     let n = c.args.n in
     room-then (below raise_rule n) (last3 n) c.args.at c.raise_rules-raised.result c.args.dst.now c.raise_rules-raised.new.dst c.raise_rules-raised.ensures all in
-    
     let n = c.args.n in
     room-then (below handle_rule n) (last2 n) c.raise_rules-raised.result c.handle_rules-handled.result c.raise_rules-raised.new.dst c.handle_rules-handled.new.dst c.handle_rules-handled.ensures room3 in
-    
     let n = c.args.n in
     record {
       n_bound = omega arith;
@@ -73,18 +66,15 @@ equal_rules-same-requires c =
 
 pub unequal_rules-requires : goal.unequal_rules-requires
 unequal_rules-requires c =
-        let room2 : Room (last2 c.args.n) c.handle_rules-handled.result c.handle_rules-handled.new.dst =
-        let room3 : Room (last3 c.args.n) c.raise_rules-raised.result c.raise_rules-raised.new.dst =
-        let all : Room (below raise_rule c.args.n ++ last3 c.args.n) c.args.at c.args.dst.now =
-        let n = c.args.n in
+    let room2 : Room (last2 c.args.n) c.handle_rules-handled.result c.handle_rules-handled.new.dst =
+    let room3 : Room (last3 c.args.n) c.raise_rules-raised.result c.raise_rules-raised.new.dst =
+    let all : Room (below raise_rule c.args.n ++ last3 c.args.n) c.args.at c.args.dst.now =
+    let n = c.args.n in
     room_as c.args.at c.args.dst.now (list-four (rs raise_rule n) (rs handle_rule n) (rs same_rule n) (rs (others n) n)) c.requires.room in
-    
     let n = c.args.n in
     room-then (below raise_rule n) (last3 n) c.args.at c.raise_rules-raised.result c.args.dst.now c.raise_rules-raised.new.dst c.raise_rules-raised.ensures all in
-    
     let n = c.args.n in
     room-then (below handle_rule n) (last2 n) c.raise_rules-raised.result c.handle_rules-handled.result c.raise_rules-raised.new.dst c.handle_rules-handled.new.dst c.handle_rules-handled.ensures room3 in
-    
     let n = c.args.n in
     record {
       n_bound = omega arith;

@@ -1,10 +1,8 @@
 -- `exceptions::handle_rules` meets its contract. The invariant: the rules of the numbers below e are written.
 use mathlib.Core.Path.{ap}
-use Prim.Native.Nat.{◌-◌, ◌≤◌}
 use native.Mathlib.Nat.{le_antisymm}
 use native.Mathlib.Omega.{arith}
 use Rattle.theory.specs.Translation.{handle_rule}
-use Rattle.generated.specs.Wrote.{Wrote}
 use Rattle.generated.proofs.Writes.{below, wrote_none, wrote-length, wrote_as, turn-room, turn_more}
 use Rattle.generated.proofs.exceptions.handle_rules.Goals as goal
 
@@ -13,7 +11,7 @@ loop-e-init c = (omega arith, wrote_none c.args.at c.args.dst.now)
 
 pub handle_rule-next-requires : goal.handle_rule-next-requires
 handle_rule-next-requires c =
-        let args = c.args in
+    let args = c.args in
     record {
       e_bound = omega arith;
       room = turn-room handle_rule args.n c.loop-e.e args.at c.loop-e.next args.dst.now c.loop-e.dst c.loop-e-test.true c.requires.room c.loop-e.invariant.1;

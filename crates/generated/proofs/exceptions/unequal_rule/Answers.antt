@@ -2,7 +2,6 @@
 use mathlib.Core.Path.{sym}
 use Rattle.generated.proofs.Writes.{wrote_none, wrote_as, room_as}
 use Rattle.generated.proofs.RuleWords.{other-same, other_differ}
-use borrow.Author.Rules.{rules}
 use Rattle.generated.proofs.exceptions.unequal_rule.Goals as goal
 
 pub returns-then-d-e : goal.returns-then-d-e

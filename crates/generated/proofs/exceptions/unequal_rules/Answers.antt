@@ -1,10 +1,8 @@
 -- `exceptions::unequal_rules` meets its contract. The invariant: the rules of the numbers below d are written.
 use mathlib.Core.Path.{ap}
-use Prim.Native.Nat.{◌-◌, ◌≤◌}
 use native.Mathlib.Nat.{le_antisymm}
 use native.Mathlib.Omega.{arith}
 use Rattle.theory.specs.Translation.{other_rule, gather, numbers}
-use Rattle.generated.specs.Wrote.{Wrote}
 use Rattle.generated.proofs.Writes.{below, wrote_none, wrote-length, wrote_as, turn-room, turn_more}
 use Rattle.generated.proofs.exceptions.unequal_rules.Goals as goal
 
@@ -13,7 +11,7 @@ loop-d-init c = (omega arith, wrote_none c.args.at c.args.dst.now)
 
 pub unequal_rules_of-next-requires : goal.unequal_rules_of-next-requires
 unequal_rules_of-next-requires c =
-        let args = c.args in
+    let args = c.args in
     record {
       d_bound = omega arith;
       n_bound = omega arith;

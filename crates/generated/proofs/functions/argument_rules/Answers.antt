@@ -1,10 +1,8 @@
 -- `functions::argument_rules` meets its contract. The invariant: the rules of the numbers below i are written.
 use mathlib.Core.Path.{ap}
-use Prim.Native.Nat.{◌-◌, ◌≤◌}
 use native.Mathlib.Nat.{le_antisymm}
 use native.Mathlib.Omega.{arith}
 use Rattle.theory.specs.Translation.{arg_rule}
-use Rattle.generated.specs.Wrote.{Wrote}
 use Rattle.generated.proofs.Writes.{below, wrote_none, wrote-length, wrote_as, turn-room, turn_more}
 use Rattle.generated.proofs.functions.argument_rules.Goals as goal
 
@@ -13,7 +11,7 @@ loop-i-init c = (omega arith, wrote_none c.args.at c.args.dst.now)
 
 pub argument_rule-next-requires : goal.argument_rule-next-requires
 argument_rule-next-requires c =
-        let args = c.args in
+    let args = c.args in
     record {
       k_bound = omega arith;
       room = turn-room (arg_rule args.k args.n) args.n c.loop-i.i args.at c.loop-i.next args.dst.now c.loop-i.dst c.loop-i-test.true c.requires.room c.loop-i.invariant.1;

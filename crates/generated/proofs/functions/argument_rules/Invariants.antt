@@ -1,11 +1,8 @@
 -- `functions::argument_rules` meets its contract. The invariant: the rules of the numbers below i are written.
-use mathlib.Core.Path.{ap}
 use Prim.Native.Nat.{◌-◌, ◌≤◌}
-use native.Mathlib.Nat.{le_antisymm}
-use native.Mathlib.Omega.{arith}
 use Rattle.theory.specs.Translation.{arg_rule}
 use Rattle.generated.specs.Wrote.{Wrote}
-use Rattle.generated.proofs.Writes.{below, wrote_none, wrote-length, wrote_as, turn-room, turn_more}
+use Rattle.generated.proofs.Writes.{below}
 use Rattle.generated.proofs.functions.argument_rules.Given as goal
 
 abbrev pub invariant-loop-i : goal.invariant-loop-i

@@ -9,7 +9,6 @@ use Rattle.theory.specs.Translation.{variables, aux}
 use Rattle.generated.specs.Wrote.{Room, Wrote}
 use Rattle.generated.proofs.Writes.{wrote_as, wrote_then, room_as, room-first, room-then}
 use Rattle.generated.proofs.RuleWords.{entry-words}
-use borrow.Author.Rules.{rules}
 use Rattle.generated.proofs.functions.entry_rule.Goals as goal
 
 abbrev over : ℕ → ℕ → List ℕ
@@ -20,13 +19,11 @@ counts n = (n + 1) ∷ (n + 1) ∷ []
 
 pub put_call-right-requires : goal.put_call-right-requires
 put_call-right-requires c =
-        let sides : let a = c.args in Room (over (aux a.k 0) a.n ++ over (aux a.k 1) a.n) c.put_words-left.result c.put_words-left.new.dst =
-        let all : let a = c.args in Room (counts a.n ++ (over (aux a.k 0) a.n ++ over (aux a.k 1) a.n)) a.at a.dst.now =
-        room_as c.args.at c.args.dst.now (entry-words c.args.k c.args.n) c.requires.room in
-    
+    let sides : let a = c.args in Room (over (aux a.k 0) a.n ++ over (aux a.k 1) a.n) c.put_words-left.result c.put_words-left.new.dst =
+    let all : let a = c.args in Room (counts a.n ++ (over (aux a.k 0) a.n ++ over (aux a.k 1) a.n)) a.at a.dst.now =
+    room_as c.args.at c.args.dst.now (entry-words c.args.k c.args.n) c.requires.room in
     let a = c.args in
     room-then (counts a.n) (over (aux a.k 0) a.n ++ over (aux a.k 1) a.n) a.at c.put_words-left.result a.dst.now c.put_words-left.new.dst c.put_words-left.ensures all in
-    
     let a = c.args in
     record {
       n_bound = omega arith;
@@ -35,16 +32,14 @@ put_call-right-requires c =
 
 pub put_call-requires : goal.put_call-requires
 put_call-requires c =
-        let sides : let a = c.args in Room (over (aux a.k 0) a.n ++ over (aux a.k 1) a.n) c.put_words-left.result c.put_words-left.new.dst =
-        let all : let a = c.args in Room (counts a.n ++ (over (aux a.k 0) a.n ++ over (aux a.k 1) a.n)) a.at a.dst.now =
-        room_as c.args.at c.args.dst.now (entry-words c.args.k c.args.n) c.requires.room in
-    
+    let sides : let a = c.args in Room (over (aux a.k 0) a.n ++ over (aux a.k 1) a.n) c.put_words-left.result c.put_words-left.new.dst =
+    let all : let a = c.args in Room (counts a.n ++ (over (aux a.k 0) a.n ++ over (aux a.k 1) a.n)) a.at a.dst.now =
+    room_as c.args.at c.args.dst.now (entry-words c.args.k c.args.n) c.requires.room in
     let a = c.args in
     room-then (counts a.n) (over (aux a.k 0) a.n ++ over (aux a.k 1) a.n) a.at c.put_words-left.result a.dst.now c.put_words-left.new.dst c.put_words-left.ensures all in
     let left : let a = c.args in Wrote (over (aux a.k 0) a.n) c.put_words-left.result c.put_words-left.new.dst c.put_call-right.new.dst c.put_call-right.result =
-        let a = c.args in
+    let a = c.args in
     wrote_as (ap (λ (w : ℕ). over w a.n) c.symbol.ensures) c.put_call-right.ensures in
-    
     let a = c.args in
     record {
       n_bound = omega arith;
@@ -54,9 +49,8 @@ put_call-requires c =
 pub returns : goal.returns
 returns c =
     let left : let a = c.args in Wrote (over (aux a.k 0) a.n) c.put_words-left.result c.put_words-left.new.dst c.put_call-right.new.dst c.put_call-right.result =
-        let a = c.args in
+    let a = c.args in
     wrote_as (ap (λ (w : ℕ). over w a.n) c.symbol.ensures) c.put_call-right.ensures in
-    
     let a = c.args in
     wrote_as (sym (entry-words a.k a.n))
     (wrote_then c.put_words-left.ensures (wrote_then left (wrote_as (ap (λ (w : ℕ). over w a.n) c.symbol-2.ensures) c.put_call.ensures)))

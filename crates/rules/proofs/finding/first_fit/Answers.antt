@@ -2,10 +2,9 @@
 use mathlib.Core.Path.{◌≡◌, refl, sym, ap, ◌∙◌}
 use mathlib.Core.Bool.{Bool}
 use mathlib.Core.List.{List}
-use Prim.Native.Nat.{ℕ, ◌+◌, ◌-◌, ◌≤◌}
+use Prim.Native.Nat.{ℕ, ◌+◌, ◌-◌}
 use native.Mathlib.Omega.{arith}
-use lib.ListN.{length, drop, take}
-use Rattle.rules.specs.Finding.{first_from}
+use lib.ListN.{drop, take}
 use Rattle.rules.specs.Matching.{fits}
 use Rattle.rules.proofs.Walk.{at-end, at_last, at-over, at-found, at_next}
 use borrow.Author.Rules.{rules}

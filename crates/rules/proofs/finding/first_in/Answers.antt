@@ -2,7 +2,6 @@
 use mathlib.Core.Path.{sym, ◌∙◌}
 use native.Mathlib.Omega.{arith}
 use Rattle.rules.proofs.Placed.{first-in-part, part-within}
-use borrow.Author.Rules.{rules}
 use Rattle.rules.proofs.finding.first_in.Goals as goal
 
 pub overflow_add-result : goal.overflow_add-result

@@ -3,7 +3,6 @@ use mathlib.Core.Path.{ap, ◌∙◌}
 use Prim.Native.Nat.{ℕ, ◌+◌, ◌*◌}
 use lib.Dec.{ltb}
 use lib.ListN.{get_or}
-use borrow.Author.Rules.{rules}
 use Rattle.rules.proofs.index.has_rules.Goals as goal
 
 pub returns : goal.returns

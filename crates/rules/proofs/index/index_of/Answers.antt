@@ -1,11 +1,9 @@
 -- `index::index_of` meets its contract. The invariant: the pass from the present place on makes of the present index what the whole pass makes.
-use mathlib.Core.Path.{◌≡◌, refl, sym, ◌∙◌}
-use Prim.Native.Nat.{◌-◌, ◌≤◌}
+use mathlib.Core.Path.{refl, sym, ◌∙◌}
 use native.Mathlib.Omega.{arith}
-use lib.ListN.{length, drop, length-set}
-use Rattle.rules.specs.Index.{index_from, index_of}
+use lib.ListN.{length-set}
+use Rattle.rules.specs.Index.{index_of}
 use Rattle.rules.proofs.Pass.{pass-end, pass-last, pass-over, pass_on}
-use borrow.Author.Rules.{rules}
 use Rattle.rules.proofs.index.index_of.Goals as goal
 
 pub loop-at-init : goal.loop-at-init
@@ -24,8 +22,7 @@ returns-then-list-from c =
 
 pub loop-at-preserved : goal.loop-at-preserved
 loop-at-preserved c =
-    let l = c.loop-at in
-    (
+    let l = c.loop-at in (
       omega arith,
       simp length-set l.invariant.1,
       l.invariant.2 ∙ pass_on _ l.at _ _ _ (omega arith) c.size_of_word-l.ensures.value c.size_of_word-r.ensures.value c.if-list-from.false

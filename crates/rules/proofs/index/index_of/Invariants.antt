@@ -1,11 +1,8 @@
 -- `index::index_of` meets its contract. The invariant: the pass from the present place on makes of the present index what the whole pass makes.
-use mathlib.Core.Path.{◌≡◌, refl, sym, ◌∙◌}
+use mathlib.Core.Path.{◌≡◌}
 use Prim.Native.Nat.{◌-◌, ◌≤◌}
-use native.Mathlib.Omega.{arith}
-use lib.ListN.{length, drop, length-set}
+use lib.ListN.{length, drop}
 use Rattle.rules.specs.Index.{index_from, index_of}
-use Rattle.rules.proofs.Pass.{pass-end, pass-last, pass-over, pass_on}
-use borrow.Author.Rules.{rules}
 use Rattle.rules.proofs.index.index_of.Given as goal
 
 abbrev pub invariant-loop-at : goal.invariant-loop-at

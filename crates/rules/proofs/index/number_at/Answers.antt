@@ -1,7 +1,6 @@
 -- `index::number_at` meets its contract: past the end there is 0.
 use mathlib.Core.Path.{sym}
 use lib.ListN.{get_or-eq_default}
-use borrow.Author.Rules.{rules}
 use Rattle.rules.proofs.index.number_at.Goals as goal
 
 pub returns-else-at-s : goal.returns-else-at-s

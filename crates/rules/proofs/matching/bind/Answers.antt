@@ -1,13 +1,11 @@
 -- `matching::bind` meets its contract. The invariant: what is left of the left side fills the slots as the whole does.
-use mathlib.Core.Path.{◌≡◌, refl, sym, ap, ap₂, ◌∙◌}
-use mathlib.Core.Logic.{⊎_elim}
-use Prim.Native.Nat.{ℕ, ◌+◌, ◌-◌, ◌≤◌}
+use mathlib.Core.Path.{refl, sym, ap, ap₂, ◌∙◌}
+use Prim.Native.Nat.{ℕ, ◌+◌}
 use native.Mathlib.Omega.{arith}
-use lib.ListN.{length, drop, get_or, set, replicate, length-set}
+use lib.ListN.{length, drop, get_or, set, length-set}
 use Rattle.rules.specs.Matching.{binds}
 use Rattle.rules.specs.declared.matching.Bound.{Bound}
 use Rattle.rules.proofs.Takes.{is_var-slot, binds-end, binds-stop, binds-var, binds-plain}
-use borrow.Author.Rules.{rules}
 use Rattle.rules.proofs.matching.bind.Goals as goal
 use Rattle.rules.proofs.matching.bind.Goals.{then-is_var, else-is_var}
 
@@ -38,7 +36,7 @@ loop-i-preserved c =
     let e = c.in-End.e in
     let q = sym c.take_word.ensures ∙ c.in-End.is in
     elim c.if-is_var.branch [
-      then-is_var w ↦ (
+      | then-is_var w ↦ (
         omega arith,
         ap (λ (b : Bound). length b.starts) w.b-is ∙ simp length-set l.invariant.1,
         ap (λ (b : Bound). length b.ends) w.b-is ∙ simp length-set l.invariant.2,
@@ -47,7 +45,7 @@ loop-i-preserved c =
             ∙ ap (λ (v : ℕ). binds a.arities.now a.subject.now (drop (l.i + 1) a.left.now) e (set l.b.starts v l.j) (set l.b.ends v e)) (sym w.size_of_word-v.ensures.value)
             ∙ sym (ap₂ (λ (b : Bound) (j : ℕ). binds a.arities.now a.subject.now (drop (l.i + 1) a.left.now) j b.starts b.ends) w.b-is w.j-is),
       )
-    | else-is_var w ↦ (
+      | else-is_var w ↦ (
         omega arith,
         ap (λ (b : Bound). length b.starts) w.b-is ∙ l.invariant.1,
         ap (λ (b : Bound). length b.ends) w.b-is ∙ l.invariant.2,

@@ -1,13 +1,8 @@
 -- `matching::bind` meets its contract. The invariant: what is left of the left side fills the slots as the whole does.
-use mathlib.Core.Path.{◌≡◌, refl, sym, ap, ap₂, ◌∙◌}
-use mathlib.Core.Logic.{⊎_elim}
-use Prim.Native.Nat.{ℕ, ◌+◌, ◌-◌, ◌≤◌}
-use native.Mathlib.Omega.{arith}
-use lib.ListN.{length, drop, get_or, set, replicate, length-set}
+use mathlib.Core.Path.{◌≡◌}
+use Prim.Native.Nat.{◌-◌, ◌≤◌}
+use lib.ListN.{length, drop, replicate}
 use Rattle.rules.specs.Matching.{binds}
-use Rattle.rules.specs.declared.matching.Bound.{Bound}
-use Rattle.rules.proofs.Takes.{is_var-slot, binds-end, binds-stop, binds-var, binds-plain}
-use borrow.Author.Rules.{rules}
 use Rattle.rules.proofs.matching.bind.Given as goal
 
 abbrev pub invariant-loop-i : goal.invariant-loop-i

@@ -1,11 +1,7 @@
 -- `matching::does_fit` meets its contract. The invariant: what is left of the left side fits from j on where the whole fits from 0 on.
-use mathlib.Core.Path.{◌≡◌, refl, sym, ◌∙◌}
-use Prim.Native.Nat.{◌-◌, ◌≤◌}
+use mathlib.Core.Path.{refl, sym, ◌∙◌}
 use native.Mathlib.Omega.{arith}
-use lib.ListN.{length, drop}
-use Rattle.rules.specs.Matching.{fits}
 use Rattle.rules.proofs.Takes.{fits-end, fits_next, fits-stop}
-use borrow.Author.Rules.{rules}
 use Rattle.rules.proofs.matching.does_fit.Goals as goal
 
 pub loop-i-init : goal.loop-i-init

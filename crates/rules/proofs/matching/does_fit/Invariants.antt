@@ -1,11 +1,8 @@
 -- `matching::does_fit` meets its contract. The invariant: what is left of the left side fits from j on where the whole fits from 0 on.
-use mathlib.Core.Path.{◌≡◌, refl, sym, ◌∙◌}
+use mathlib.Core.Path.{◌≡◌}
 use Prim.Native.Nat.{◌-◌, ◌≤◌}
-use native.Mathlib.Omega.{arith}
 use lib.ListN.{length, drop}
 use Rattle.rules.specs.Matching.{fits}
-use Rattle.rules.proofs.Takes.{fits-end, fits_next, fits-stop}
-use borrow.Author.Rules.{rules}
 use Rattle.rules.proofs.matching.does_fit.Given as goal
 
 abbrev pub invariant-loop-i : goal.invariant-loop-i

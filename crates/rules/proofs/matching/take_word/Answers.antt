@@ -1,7 +1,6 @@
 -- `matching::take_word` meets its contract: each return is a case of `takes`.
 use mathlib.Core.Path.{sym, ◌∙◌}
 use Rattle.rules.proofs.Takes.{takes-var, takes_same, takes-other, takes_out}
-use borrow.Author.Rules.{rules}
 use Rattle.rules.proofs.matching.take_word.Goals as goal
 
 pub returns-then-is_var : goal.returns-then-is_var

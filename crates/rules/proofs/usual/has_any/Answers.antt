@@ -5,7 +5,6 @@ use mathlib.Core.Bool.{false≢true}
 use mathlib.Core.List.{List}
 use Prim.Native.Nat.{ℕ}
 use Rattle.rules.specs.Usual.{Base, NoRules}
-use borrow.Author.Rules.{rules}
 use Rattle.rules.proofs.usual.has_any.Goals as goal
 
 none-of-base : (index : List ℕ) → NoRules index 1 → NoRules index 3 → NoRules index 4 → (c : ℕ) → Base c → NoRules index c
@@ -25,12 +24,11 @@ pub returns-then-has_rules-3 : goal.returns-then-has_rules-3
 returns-then-has_rules-3 c = (λ e. absurd (false≢true (sym e)), λ h. absurd (false≢true (sym (h.1 _ (inr (inr refl))) ∙ sym c.has_rules-3.ensures ∙ c.if-has_rules-3.true)))
 
 pub returns : goal.returns
-returns c =
-    (
-      λ e. (
-        sym c.has_rules-4.ensures ∙ e,
-        none-of-base c.args.index.now (sym c.has_rules.ensures ∙ c.if-has_rules.false) (sym c.has_rules-2.ensures ∙ c.if-has_rules-2.false)
-            (sym c.has_rules-3.ensures ∙ c.if-has_rules-3.false),
-      ),
-      λ h. c.has_rules-4.ensures ∙ h.0,
-    )
+returns c = (
+  λ e. (
+    sym c.has_rules-4.ensures ∙ e,
+    none-of-base c.args.index.now (sym c.has_rules.ensures ∙ c.if-has_rules.false) (sym c.has_rules-2.ensures ∙ c.if-has_rules-2.false)
+        (sym c.has_rules-3.ensures ∙ c.if-has_rules-3.false),
+  ),
+  λ h. c.has_rules-4.ensures ∙ h.0,
+)

@@ -1,8 +1,6 @@
 -- `usual::is_indexed` meets its contract.
 use mathlib.Core.Path.{sym, ◌∙◌}
 use mathlib.Core.Bool.{false≢true}
-use borrow.Author.Tests.{not-true, not-false}
-use borrow.Author.Rules.{rules}
 use Rattle.rules.proofs.usual.is_indexed.Goals as goal
 
 pub returns-then-not-is_span : goal.returns-then-not-is_span

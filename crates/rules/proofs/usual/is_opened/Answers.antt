@@ -8,7 +8,6 @@ use lib.ListN.{length, take, length-take}
 use Rattle.words.specs.Same.{same_words}
 use Rattle.words.proofs.Same.{same_true, same_refl}
 use Rattle.rules.specs.Usual.{opening}
-use borrow.Author.Rules.{rules}
 use Rattle.rules.proofs.usual.is_opened.Goals as goal
 
 opening-long : length opening ≡ 50

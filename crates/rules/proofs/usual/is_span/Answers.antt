@@ -3,7 +3,6 @@ use mathlib.Core.Path.{sym, ap, ◌∙◌}
 use mathlib.Core.Bool.{false≢true}
 use borrow.Author.Tests.{eqb-true, eq-eqb}
 use Rattle.rules.specs.declared.index.Span.{Span}
-use borrow.Author.Rules.{rules}
 use Rattle.rules.proofs.usual.is_span.Goals as goal
 
 pub returns-then-span-from : goal.returns-then-span-from

@@ -1,9 +1,7 @@
 -- `usual::is_usual` meets its contract.
 use mathlib.Core.Path.{refl, sym, ◌∙◌}
 use mathlib.Core.Bool.{false≢true}
-use borrow.Author.Tests.{not-true, not-false}
 use Rattle.rules.specs.Usual.{Usual}
-use borrow.Author.Rules.{rules}
 use Rattle.rules.proofs.usual.is_usual.Goals as goal
 
 pub returns-then-not-is_opened : goal.returns-then-not-is_opened

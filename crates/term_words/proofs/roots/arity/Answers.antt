@@ -1,7 +1,6 @@
 -- `roots::arity` meets its contract.
 use mathlib.Core.Path.{sym}
 use lib.ListN.{get_or-eq_default}
-use borrow.Author.Rules.{rules}
 use Rattle.term_words.proofs.roots.arity.Goals as goal
 
 pub returns : goal.returns

@@ -2,7 +2,6 @@
 use mathlib.Core.Path.{ap₂, ◌∙◌}
 use Prim.Native.Nat.{ℕ}
 use borrow.Author.Tests.{eq-eqb, ne_eqb}
-use borrow.Author.Rules.{rules}
 use Rattle.term_words.proofs.roots.long_root.Goals as goal
 
 pub returns-then-kind-eq20 : goal.returns-then-kind-eq20

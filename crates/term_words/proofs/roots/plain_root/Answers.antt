@@ -1,6 +1,5 @@
 -- `roots::plain_root` meets its contract: each return is the case that the tests before it pick.
 use borrow.Author.Tests.{eq-eqb, ne_eqb}
-use borrow.Author.Rules.{rules}
 use Rattle.term_words.proofs.roots.plain_root.Goals as goal
 
 pub returns-then-kind-eq16 : goal.returns-then-kind-eq16

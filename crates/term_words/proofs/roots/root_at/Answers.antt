@@ -5,7 +5,6 @@ use native.Mathlib.Omega.{arith}
 use Rattle.term_words.specs.Records.{long_record}
 use Rattle.term_words.specs.Roots.{root_of}
 use Rattle.term_words.proofs.Laws.{next-inside, root-plain, root-long}
-use borrow.Author.Rules.{rules}
 use Rattle.term_words.proofs.roots.root_at.Goals as goal
 
 pub overflow_add-next : goal.overflow_add-next

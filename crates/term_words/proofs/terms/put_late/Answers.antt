@@ -1,6 +1,5 @@
 -- `terms::put_late` meets its contract.
 use mathlib.Core.Path.{sym}
-use borrow.Author.Rules.{rules}
 use Rattle.generated.proofs.Writes.{room_as, wrote_as, wrote_none}
 use Rattle.term_words.proofs.Late.{late-none, late-some}
 use Rattle.term_words.proofs.terms.put_late.Goals as goal

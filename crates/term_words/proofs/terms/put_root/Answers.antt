@@ -7,7 +7,6 @@ use borrow.Author.Tests.{eq-eqb, ne_eqb}
 use Rattle.theory.specs.Syntax.{pick}
 use Rattle.generated.proofs.Writes.{room_as, wrote_as}
 use Rattle.term_words.specs.Roots.{root_words}
-use borrow.Author.Rules.{rules}
 use Rattle.term_words.proofs.terms.put_root.Goals as goal
 
 two : (w x : ℕ) → w ≡ 11 → root_words w x ≡ w ∷ x ∷ []

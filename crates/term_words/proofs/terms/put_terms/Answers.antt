@@ -18,9 +18,9 @@ loop-owed-init c =
 pub root_at-root-requires : goal.root_at-root-requires
 root_at-root-requires c =
     let here : let a = c.args in Whole (from a.arities.now a.bytes.now c.loop-owed.next) 1 =
-        let a = c.args in
+    let a = c.args in
     whole-first a.arities.now a.bytes.now c.loop-owed.next c.loop-owed.owed c.loop-owed-test.true c.loop-owed.invariant.0.going.whole in
-     here
+    here
 
 pub put_root-behind-requires : goal.put_root-behind-requires
 put_root-behind-requires c =
@@ -42,14 +42,14 @@ overflow_add-owed c =
 pub offset_bounds-late-owed : goal.offset_bounds-late-owed
 offset_bounds-late-owed c =
     let inside : c.loop-owed.owed - 1 + c.root_at-root.result.parts < length c.keep.new.late =
-        owes-inside c.loop-owed.invariant.0 c.loop-owed-test.true c.root_at-root.result c.root_at-root.ensures c.keep.new.late c.keep.ensures c.put_root-behind.ensures in
-     let h = inside in search rules
+    owes-inside c.loop-owed.invariant.0 c.loop-owed-test.true c.root_at-root.result c.root_at-root.ensures c.keep.new.late c.keep.ensures c.put_root-behind.ensures in
+    let h = inside in search rules
 
 pub bounds-late-owed : goal.bounds-late-owed
 bounds-late-owed c =
     let inside : c.loop-owed.owed - 1 + c.root_at-root.result.parts < length c.keep.new.late =
-        owes-inside c.loop-owed.invariant.0 c.loop-owed-test.true c.root_at-root.result c.root_at-root.ensures c.keep.new.late c.keep.ensures c.put_root-behind.ensures in
-     inside
+    owes-inside c.loop-owed.invariant.0 c.loop-owed-test.true c.root_at-root.result c.root_at-root.ensures c.keep.new.late c.keep.ensures c.put_root-behind.ensures in
+    inside
 
 pub put_late-to-requires : goal.put_late-to-requires
 put_late-to-requires c =
@@ -58,21 +58,20 @@ put_late-to-requires c =
 pub offset_bounds-late-owed-in-loop-owed : goal.offset_bounds-late-owed-in-loop-owed
 offset_bounds-late-owed-in-loop-owed c =
     let inside : c.loop-owed.owed - 1 + c.root_at-root.result.parts < length c.keep.new.late =
-        owes-inside c.loop-owed.invariant.0 c.loop-owed-test.true c.root_at-root.result c.root_at-root.ensures c.keep.new.late c.keep.ensures c.put_root-behind.ensures in
-     let h = inside in search rules
+    owes-inside c.loop-owed.invariant.0 c.loop-owed-test.true c.root_at-root.result c.root_at-root.ensures c.keep.new.late c.keep.ensures c.put_root-behind.ensures in
+    let h = inside in search rules
 
 pub bounds-late-owed-in-loop-owed : goal.bounds-late-owed-in-loop-owed
 bounds-late-owed-in-loop-owed c =
     let inside : c.loop-owed.owed - 1 + c.root_at-root.result.parts < length c.keep.new.late =
-        owes-inside c.loop-owed.invariant.0 c.loop-owed-test.true c.root_at-root.result c.root_at-root.ensures c.keep.new.late c.keep.ensures c.put_root-behind.ensures in
-     inside
+    owes-inside c.loop-owed.invariant.0 c.loop-owed-test.true c.root_at-root.result c.root_at-root.ensures c.keep.new.late c.keep.ensures c.put_root-behind.ensures in
+    inside
 
 pub loop-owed-smaller : goal.loop-owed-smaller
 loop-owed-smaller c =
     let here : let a = c.args in Whole (from a.arities.now a.bytes.now c.loop-owed.next) 1 =
-        let a = c.args in
+    let a = c.args in
     whole-first a.arities.now a.bytes.now c.loop-owed.next c.loop-owed.owed c.loop-owed-test.true c.loop-owed.invariant.0.going.whole in
-    
     let a = c.args in
     omega (arith, root-inside a.arities.now a.bytes.now c.loop-owed.next c.root_at-root.result c.root_at-root.ensures here)
 
@@ -89,7 +88,7 @@ shape_of-late c = c.loop-owed.invariant.1
 
 pub returns : goal.returns
 returns c =
-        let a = c.args in
+    let a = c.args in
     let z : c.loop-owed.owed ≡ 0 = (let h = c.loop-owed-test.false in omega (arith, h)) in let both = putting-end (subst (λ (i : ℕ). Putting a.arities.now a.bytes.now a.p a.n a.at a.dst.now i c.loop-owed.next c.loop-owed.to c.loop-owed.late c.loop-owed.dst) z c.loop-owed.invariant.0) in
     record {
       passed = both.0;

@@ -1,13 +1,8 @@
 -- `terms::put_terms` meets its contract. The loop's invariant is `Putting`; the measure is the bytes that remain.
-use mathlib.Core.Path.{◌≡◌, refl, subst, ◌∙◌}
-use Prim.Native.Nat.{ℕ, ◌+◌, ◌-◌, ◌<◌}
-use native.Mathlib.Omega.{arith}
-use borrow.Author.Rules.{rules}
+use mathlib.Core.Path.{◌≡◌}
+use Prim.Native.Nat.{◌-◌}
 use lib.ListN.{length}
-use Rattle.generated.proofs.Writes.{wrote-length}
-use Rattle.term_words.specs.Records.{Whole, from}
-use Rattle.term_words.proofs.Laws.{root-inside, whole-first}
-use Rattle.term_words.proofs.Putting.{Putting, putting-start, putting-turn, putting-end, turned, owed-inside, owes-inside, room-root, room-late}
+use Rattle.term_words.proofs.Putting.{Putting}
 use Rattle.term_words.proofs.terms.put_terms.Given as goal
 
 abbrev pub invariant-loop-owed : goal.invariant-loop-owed

@@ -2,7 +2,6 @@
 use mathlib.Core.Path.{◌≡◌, sym, subst}
 use Prim.Native.Nat.{ℕ, ◌+◌, ◌-◌, ◌≤◌, ◌<◌}
 use native.Mathlib.Omega.{arith}
-use borrow.Author.Rules.{rules}
 use lib.ListN.{length}
 use lib.Dec.{eqb}
 use Rattle.theory.specs.Syntax.{pick}
@@ -19,16 +18,15 @@ loop-owed-init c =
 pub root_at-root-requires : goal.root_at-root-requires
 root_at-root-requires c =
     let here : let a = c.args in Whole (from a.arities.now a.bytes.now c.loop-owed.next) 1 =
-        let a = c.args in
+    let a = c.args in
     whole-first a.arities.now a.bytes.now c.loop-owed.next c.loop-owed.owed c.loop-owed-test.true c.loop-owed.invariant.whole in
-     here
+    here
 
 pub overflow_add-count : goal.overflow_add-count
 overflow_add-count c =
     let turned : let a = c.args in Going a.arities.now a.bytes.now a.p a.n (c.loop-owed.owed - 1 + c.root_at-root.result.parts) c.root_at-root.result.next (c.loop-owed.count + pick (eqb c.root_at-root.result.exception 0) 1 2) =
-        let a = c.args in
+    let a = c.args in
     going-turn a.arities.now a.bytes.now a.p a.n c.loop-owed.owed c.loop-owed.next c.loop-owed.count c.root_at-root.result c.loop-owed.invariant c.loop-owed-test.true c.root_at-root.ensures in
-    
     omega (arith, turned.words, c.word_count-count.ensures, c.requires.n_bound)
 
 pub overflow_sub-owed : goal.overflow_sub-owed
@@ -37,34 +35,32 @@ overflow_sub-owed c = let h = c.loop-owed-test.true in omega (arith, h)
 pub overflow_add-owed : goal.overflow_add-owed
 overflow_add-owed c =
     let turned : let a = c.args in Going a.arities.now a.bytes.now a.p a.n (c.loop-owed.owed - 1 + c.root_at-root.result.parts) c.root_at-root.result.next (c.loop-owed.count + pick (eqb c.root_at-root.result.exception 0) 1 2) =
-        let a = c.args in
+    let a = c.args in
     going-turn a.arities.now a.bytes.now a.p a.n c.loop-owed.owed c.loop-owed.next c.loop-owed.count c.root_at-root.result c.loop-owed.invariant c.loop-owed-test.true c.root_at-root.ensures in
-     omega (arith, turned.few, c.size_of_byte.ensures.value)
+    omega (arith, turned.few, c.size_of_byte.ensures.value)
 
 pub loop-owed-smaller : goal.loop-owed-smaller
 loop-owed-smaller c =
     let bounds : let a = c.args in (c.loop-owed.next < c.root_at-root.result.next) × (c.root_at-root.result.next ≤ length a.bytes.now) =
-        let here : let a = c.args in Whole (from a.arities.now a.bytes.now c.loop-owed.next) 1 =
-        let a = c.args in
+    let here : let a = c.args in Whole (from a.arities.now a.bytes.now c.loop-owed.next) 1 =
+    let a = c.args in
     whole-first a.arities.now a.bytes.now c.loop-owed.next c.loop-owed.owed c.loop-owed-test.true c.loop-owed.invariant.whole in
-    
     let a = c.args in
     root-inside a.arities.now a.bytes.now c.loop-owed.next c.root_at-root.result c.root_at-root.ensures here in
-     omega (arith, bounds)
+    omega (arith, bounds)
 
 pub loop-owed-preserved : goal.loop-owed-preserved
 loop-owed-preserved c =
     let turned : let a = c.args in Going a.arities.now a.bytes.now a.p a.n (c.loop-owed.owed - 1 + c.root_at-root.result.parts) c.root_at-root.result.next (c.loop-owed.count + pick (eqb c.root_at-root.result.exception 0) 1 2) =
-        let a = c.args in
+    let a = c.args in
     going-turn a.arities.now a.bytes.now a.p a.n c.loop-owed.owed c.loop-owed.next c.loop-owed.count c.root_at-root.result c.loop-owed.invariant c.loop-owed-test.true c.root_at-root.ensures in
-    
     let a = c.args in
     subst (λ (i : ℕ). Going a.arities.now a.bytes.now a.p a.n (c.loop-owed.owed - 1 + i) c.root_at-root.result.next (c.loop-owed.count + c.word_count-count.result)) (sym c.size_of_byte.ensures.value)
     (subst (λ (i : ℕ). Going a.arities.now a.bytes.now a.p a.n (c.loop-owed.owed - 1 + c.root_at-root.result.parts) c.root_at-root.result.next (c.loop-owed.count + i)) (sym c.word_count-count.ensures) turned)
 
 pub returns : goal.returns
 returns c =
-        let a = c.args in
+    let a = c.args in
     let z : c.loop-owed.owed ≡ 0 = (let h = c.loop-owed-test.false in omega (arith, h)) in let both = going_end a.arities.now a.bytes.now a.p a.n c.loop-owed.next c.loop-owed.count
     (subst (λ (i : ℕ). Going a.arities.now a.bytes.now a.p a.n i c.loop-owed.next c.loop-owed.count) z c.loop-owed.invariant) in
     record {

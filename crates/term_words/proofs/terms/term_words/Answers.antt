@@ -1,14 +1,13 @@
 -- `terms::term_words` meets its contract: one term.
 use mathlib.Core.Path.{sym}
 use native.Mathlib.Omega.{arith}
-use borrow.Author.Rules.{rules}
 use Rattle.generated.proofs.Writes.{wrote_as, room_as}
 use Rattle.term_words.proofs.Laws.{record-inside, term-alone}
 use Rattle.term_words.proofs.terms.term_words.Goals as goal
 
 pub terms_words-requires : goal.terms_words-requires
 terms_words-requires c =
-        let a = c.args in
+    let a = c.args in
     let h = c.requires.whole in
     let b = record-inside a.arities.now a.bytes.now a.p h in
     record {
@@ -19,7 +18,7 @@ terms_words-requires c =
 
 pub returns : goal.returns
 returns c =
-        let a = c.args in
+    let a = c.args in
     record {
       passed = c.terms_words.ensures.passed;
       wrote = wrote_as (term-alone a.arities.now a.bytes.now a.p c.requires.whole) c.terms_words.ensures.wrote;

@@ -2,13 +2,12 @@
 use Prim.Native.Nat.{ℕ}
 use native.Mathlib.Omega.{arith}
 use lib.ListN.{length-replicate}
-use borrow.Author.Rules.{rules}
 use Rattle.term_words.proofs.Late.{zeros-clear}
 use Rattle.term_words.proofs.terms.terms_words.Goals as goal
 
 pub put_terms-requires : goal.put_terms-requires
 put_terms-requires c =
-        let a = c.args in
+    let a = c.args in
     record {
       p_in_bounds = c.requires.p_in_bounds;
       room = c.requires.room;

@@ -1,9 +1,9 @@
 -- `slices::copy_into` meets its contract. The invariant: the first i words of src are written over dst.
-use mathlib.Core.Path.{◌≡◌, refl, ap, ◌∙◌}
+use mathlib.Core.Path.{refl, ap, ◌∙◌}
 use mathlib.Core.List.{List}
-use Prim.Native.Nat.{ℕ, ◌-◌, ◌≤◌}
+use Prim.Native.Nat.{ℕ}
 use native.Mathlib.Omega.{arith}
-use lib.ListN.{length, take, length-set}
+use lib.ListN.{length-set}
 use lib.Seq.{take_all}
 use Rattle.theory.specs.Buffers.{over}
 use Rattle.words.proofs.Writes.{over-more}
@@ -13,11 +13,10 @@ pub loop-i-init : goal.loop-i-init
 loop-i-init c = (omega arith, (refl, refl))
 
 pub loop-i-preserved : goal.loop-i-preserved
-loop-i-preserved c =
-    (
-      omega arith,
-      (rw c.loop-i.invariant.1.0 (over-more c.args.src.now c.args.dst.now c.loop-i.i (omega arith)), simp length-set (search)),
-    )
+loop-i-preserved c = (
+  omega arith,
+  (rw c.loop-i.invariant.1.0 (over-more c.args.src.now c.args.dst.now c.loop-i.i (omega arith)), simp length-set (search)),
+)
 
 pub shape_of-dst : goal.shape_of-dst
 shape_of-dst c = c.loop-i.invariant.1.1

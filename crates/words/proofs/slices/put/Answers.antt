@@ -2,7 +2,6 @@
 use Prim.Native.Nat.{◌-◌}
 use native.Mathlib.Omega.{arith}
 use lib.ListN.{length}
-use borrow.Author.Rules.{rules}
 use Rattle.words.proofs.Writes.{put-lent}
 use Rattle.words.proofs.slices.put.Goals as goal
 

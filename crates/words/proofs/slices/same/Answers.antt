@@ -1,9 +1,8 @@
 -- `slices::same` meets its contract. The loop's invariant: the lists are the same if they are from i on.
-use mathlib.Core.Path.{◌≡◌, refl, sym, ◌∙◌}
-use Prim.Native.Nat.{◌-◌, ◌≤◌, ◌<◌}
+use mathlib.Core.Path.{refl, sym, ◌∙◌}
+use Prim.Native.Nat.{◌≤◌, ◌<◌}
 use native.Mathlib.Omega.{arith}
-use borrow.Author.Rules.{rules}
-use lib.ListN.{length, drop, drop_of_length-le}
+use lib.ListN.{length, drop_of_length-le}
 use Rattle.words.specs.Same.{same_words}
 use Rattle.words.proofs.Same.{same-lengths, same_next, same-differ}
 use Rattle.words.proofs.slices.same.Goals as goal

@@ -1,10 +1,8 @@
 -- `slices::zero_from` meets its contract. The invariant: zeros are put from `from` up to i.
-use mathlib.Core.Path.{◌≡◌, refl, ◌∙◌}
-use Prim.Native.Nat.{◌-◌, ◌≤◌}
+use mathlib.Core.Path.{refl, ◌∙◌}
 use native.Mathlib.Nat.{le_antisymm}
 use native.Mathlib.Omega.{arith}
-use lib.ListN.{length, length-set, replicate}
-use Rattle.theory.specs.Buffers.{put}
+use lib.ListN.{length-set}
 use Rattle.words.proofs.Writes.{zero-none, zero_more}
 use Rattle.words.proofs.slices.zero_from.Goals as goal
 

@@ -1,11 +1,8 @@
 -- `slices::zero_from` meets its contract. The invariant: zeros are put from `from` up to i.
-use mathlib.Core.Path.{◌≡◌, refl, ◌∙◌}
+use mathlib.Core.Path.{◌≡◌}
 use Prim.Native.Nat.{◌-◌, ◌≤◌}
-use native.Mathlib.Nat.{le_antisymm}
-use native.Mathlib.Omega.{arith}
-use lib.ListN.{length, length-set, replicate}
+use lib.ListN.{length, replicate}
 use Rattle.theory.specs.Buffers.{put}
-use Rattle.words.proofs.Writes.{zero-none, zero_more}
 use Rattle.words.proofs.slices.zero_from.Given as goal
 
 abbrev pub invariant-loop-i : goal.invariant-loop-i

@@ -1,11 +1,9 @@
 -- `terms::are_succs` meets its contract. The loop's invariant: where the first j words are succ's, the run ends where it ends behind them.
 use mathlib.Core.Path.{◌≡◌, sym, ap, ◌∙◌}
-use mathlib.Core.Bool.{true}
-use Prim.Native.Nat.{ℕ, ◌+◌, ◌-◌, ◌≤◌}
+use Prim.Native.Nat.{ℕ, ◌+◌}
 use native.Mathlib.Nat.{add-zero}
 use native.Mathlib.Omega.{arith}
-use borrow.Author.Rules.{rules}
-use lib.ListN.{length, drop}
+use lib.ListN.{drop}
 use Rattle.words.specs.Terms.{succs_end}
 use Rattle.words.proofs.Skips.{succs-more}
 use Rattle.words.proofs.terms.are_succs.Goals as goal

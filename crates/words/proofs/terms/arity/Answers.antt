@@ -1,5 +1,4 @@
 -- `terms::arity` meets its contract: each return is the case of `arity_of` that the tests before it pick.
-use borrow.Author.Rules.{rules}
 use borrow.Author.Tests.{lt-ltb, le-ltb}
 use lib.ListN.{get_or-eq_default}
 use Rattle.words.specs.Terms.{arity_of, fixed}

@@ -1,9 +1,7 @@
 -- `terms::blocks_end` meets its contract. The loop's invariant: the run ends where it ends from i on.
-use mathlib.Core.Path.{◌≡◌, refl, ◌∙◌}
+use mathlib.Core.Path.{◌≡◌}
 use Prim.Native.Nat.{◌-◌}
-use borrow.Author.Rules.{rules}
 use lib.ListN.{length, drop}
-use Rattle.theory.proofs.Tests.{not-true}
 use Rattle.words.specs.Terms.{succs_end}
 use Rattle.words.proofs.terms.blocks_end.Given as goal
 

@@ -1,6 +1,5 @@
 -- `terms::root_of` meets its contract.
 use mathlib.Core.Path.{sym}
-use borrow.Author.Rules.{rules}
 use Rattle.words.proofs.Skips.{succs-other}
 use Rattle.words.proofs.terms.root_of.Goals as goal
 

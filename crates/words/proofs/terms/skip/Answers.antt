@@ -1,5 +1,4 @@
 -- `terms::skip` meets its contract: one term.
-use borrow.Author.Rules.{rules}
 use Rattle.words.specs.Terms.{skip_at}
 use Rattle.words.proofs.terms.skip.Goals as goal
 

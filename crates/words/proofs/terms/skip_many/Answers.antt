@@ -1,8 +1,7 @@
 -- `terms::skip_many` meets its contract. The loop's invariant: the n terms end where the parts still owed end. The measure is the words that remain.
 use mathlib.Core.Path.{◌≡◌, refl, sym, ◌∙◌}
-use Prim.Native.Nat.{◌-◌, ◌<◌}
+use Prim.Native.Nat.{◌<◌}
 use native.Mathlib.Omega.{arith}
-use borrow.Author.Rules.{rules}
 use lib.ListN.{length, drop, length-drop}
 use Rattle.words.specs.Terms.{arity_of, past}
 use Rattle.words.proofs.Skips.{past-none, past-few, past-step, past-run, succs-from}
@@ -14,16 +13,16 @@ loop-owed-init c = refl
 pub returns-then-words-root : goal.returns-then-words-root
 returns-then-words-root c =
     let under : let a = c.args in past (arity_of a.arities.now) (drop a.at a.words.now) a.n a.at ≡ past (arity_of a.arities.now) (drop c.root_of-root.result a.words.now) c.loop-owed.owed c.root_of-root.result =
-        let a = c.args in
+    let a = c.args in
     c.loop-owed.invariant ∙ past-run a.arities.now a.words.now c.loop-owed.next c.root_of-root.result c.loop-owed.owed (omega arith) c.root_of-root.ensures in
-     sym (under ∙ past-few _ _ _ _ (simp length-drop (omega arith)))
+    sym (under ∙ past-few _ _ _ _ (simp length-drop (omega arith)))
 
 pub returns-then-words-root-2 : goal.returns-then-words-root-2
 returns-then-words-root-2 c =
     let under : let a = c.args in past (arity_of a.arities.now) (drop a.at a.words.now) a.n a.at ≡ past (arity_of a.arities.now) (drop c.root_of-root.result a.words.now) c.loop-owed.owed c.root_of-root.result =
-        let a = c.args in
+    let a = c.args in
     c.loop-owed.invariant ∙ past-run a.arities.now a.words.now c.loop-owed.next c.root_of-root.result c.loop-owed.owed (omega arith) c.root_of-root.ensures in
-     sym (under ∙ past-few _ _ _ _ (simp length-drop (omega arith)))
+    sym (under ∙ past-few _ _ _ _ (simp length-drop (omega arith)))
 
 pub loop-owed-smaller : goal.loop-owed-smaller
 loop-owed-smaller c =
@@ -33,9 +32,8 @@ loop-owed-smaller c =
 pub loop-owed-preserved : goal.loop-owed-preserved
 loop-owed-preserved c =
     let under : let a = c.args in past (arity_of a.arities.now) (drop a.at a.words.now) a.n a.at ≡ past (arity_of a.arities.now) (drop c.root_of-root.result a.words.now) c.loop-owed.owed c.root_of-root.result =
-        let a = c.args in
+    let a = c.args in
     c.loop-owed.invariant ∙ past-run a.arities.now a.words.now c.loop-owed.next c.root_of-root.result c.loop-owed.owed (omega arith) c.root_of-root.ensures in
-    
     let some : 0 < c.loop-owed.owed = omega arith in
     let inside : c.root_of-root.result < length c.args.words.now = omega arith in
     under ∙ rw c.arity.ensures (past-step _ _ _ _ some inside)

@@ -1,11 +1,8 @@
 -- `terms::skip_many` meets its contract. The loop's invariant: the n terms end where the parts still owed end. The measure is the words that remain.
-use mathlib.Core.Path.{◌≡◌, refl, sym, ◌∙◌}
-use Prim.Native.Nat.{◌-◌, ◌<◌}
-use native.Mathlib.Omega.{arith}
-use borrow.Author.Rules.{rules}
-use lib.ListN.{length, drop, length-drop}
+use mathlib.Core.Path.{◌≡◌}
+use Prim.Native.Nat.{◌-◌}
+use lib.ListN.{length, drop}
 use Rattle.words.specs.Terms.{arity_of, past}
-use Rattle.words.proofs.Skips.{past-none, past-few, past-step, past-run, succs-from}
 use Rattle.words.proofs.terms.skip_many.Given as goal
 
 abbrev pub invariant-loop-owed : goal.invariant-loop-owed

@@ -1,10 +1,5 @@
 -- `terms::succs_end` meets its contract. The loop's invariant: the run ends where it ends from i on.
-use mathlib.Core.Path.{◌≡◌, sym, ◌∙◌}
-use Prim.Native.Nat.{◌-◌}
-use native.Mathlib.Omega.{arith}
-use borrow.Author.Rules.{rules}
-use lib.ListN.{length, drop}
-use Rattle.words.specs.Terms.{succs_end}
+use mathlib.Core.Path.{sym, ◌∙◌}
 use Rattle.words.proofs.Skips.{succs-out, succs-other, succs-next}
 use Rattle.words.proofs.terms.succs_end.Goals as goal
 
