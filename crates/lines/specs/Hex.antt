@@ -1,5 +1,5 @@
 -- Bytes as hexadecimal digits, lower case.
-use Rattle.std.specs.Prelude.{ℕ, ◌+◌, ◌-◌, ◌*◌, ◌/◌, ◌%◌, Bool, true, false, ◌&&◌, List, [], ◌∷◌, eqb, leb, ltb, length, get_or}
+use Rattle.std.specs.Prelude.{ℕ, ◌+◌, ◌-◌, ◌*◌, ◌/◌, ◌%◌, Bool, true, false, List, [], ◌∷◌, eqb, leb, ltb, length, get_or}
 use Rattle.theory.specs.Syntax.{pick, choose}
 
 -- the value of a digit, 0 to 9 or a to f; 16 for a byte that is none

@@ -1,5 +1,5 @@
 -- What the public calls ask for: a program or a question that the checker accepts, with what it hands over.
-use Rattle.std.specs.Prelude.{◌≡◌, ℕ, List, [], ◌∷◌, length}
+use Rattle.std.specs.Prelude.{◌≡◌, ℕ, List, length}
 use Rattle.theory.specs.Syntax.{Term}
 use Rattle.theory.specs.Words.{words, stored_rules}
 use Rattle.theory.specs.Translation.{tree, own_list}

@@ -1,9 +1,5 @@
 -- `lines::all_digits` meets its contract. The loop's invariant: what is left decides.
-use borrow.Author.Rules.{rules}
-use Prim.Native.Nat.{◌-◌}
-use mathlib.Core.Path.{◌≡◌, refl, sym, ◌∙◌}
-use lib.ListN.{length, drop}
-use Rattle.lines.specs.Hex.{all_digits}
+use mathlib.Core.Path.{refl, sym, ◌∙◌}
 use Rattle.lines.proofs.Laws.{none_more, no_digit, next-digit}
 use Rattle.lines.proofs.all_digits.Goals as goal
 

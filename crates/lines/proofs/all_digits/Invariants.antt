@@ -1,10 +1,8 @@
 -- `lines::all_digits` meets its contract. The loop's invariant: what is left decides.
-use borrow.Author.Rules.{rules}
 use Prim.Native.Nat.{◌-◌}
-use mathlib.Core.Path.{◌≡◌, refl, sym, ◌∙◌}
+use mathlib.Core.Path.{◌≡◌}
 use lib.ListN.{length, drop}
 use Rattle.lines.specs.Hex.{all_digits}
-use Rattle.lines.proofs.Laws.{none_more, no_digit, next-digit}
 use Rattle.lines.proofs.all_digits.Given as goal
 
 abbrev pub invariant-loop-i : goal.invariant-loop-i

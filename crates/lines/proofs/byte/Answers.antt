@@ -1,5 +1,4 @@
 -- `lines::byte` meets its contract.
-use borrow.Author.Rules.{rules}
 use native.Mathlib.Omega.{arith}
 use Rattle.lines.proofs.Laws.{byte-is}
 use Rattle.lines.proofs.byte.Goals as goal

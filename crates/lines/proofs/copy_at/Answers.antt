@@ -1,9 +1,8 @@
 -- `lines::copy_at` meets its contract. The loop's invariant: with what is left put behind, the line is as it is to be.
-use borrow.Author.Rules.{rules}
-use Prim.Native.Nat.{◌+◌, ◌-◌, ◌≤◌, ◌<◌}
+use Prim.Native.Nat.{◌+◌, ◌<◌}
 use mathlib.Core.Path.{◌≡◌, refl, sym, ap, ◌∙◌}
 use native.Mathlib.Omega.{arith}
-use lib.ListN.{length, drop, length-set}
+use lib.ListN.{length, length-set}
 use Rattle.theory.specs.Buffers.{put}
 use Rattle.lines.proofs.Laws.{copy-next, copy_done}
 use Rattle.lines.proofs.copy_at.Goals as goal

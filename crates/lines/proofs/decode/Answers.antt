@@ -1,14 +1,11 @@
 -- `lines::decode` meets its contract.
-use borrow.Author.Rules.{rules}
 use mathlib.Core.Path.{sym, ◌∙◌}
-use native.Mathlib.Omega.{arith}
-use Rattle.theory.proofs.Tests.{not-true, not-false}
 use Rattle.lines.proofs.Laws.{readable-sound, decoded-bad, written-bad, decoded-good, written-good, fits_after}
 use Rattle.lines.proofs.decode.Goals as goal
 
 pub returns-then-not-readable : goal.returns-then-not-readable
 returns-then-not-readable c =
-        let h = sym c.readable.ensures ∙ c.if-not-readable.true in
+    let h = sym c.readable.ensures ∙ c.if-not-readable.true in
     let s = c.args in
     record {
       value = decoded-bad s.field.now s.out.now h;
@@ -24,7 +21,7 @@ write_bytes-requires c =
 
 pub returns : goal.returns
 returns c =
-        let h = sym c.readable.ensures ∙ c.if-not-readable.false in
+    let h = sym c.readable.ensures ∙ c.if-not-readable.false in
     let s = c.args in
     record {
       value = decoded-good s.field.now s.out.now h;

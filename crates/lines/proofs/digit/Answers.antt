@@ -1,6 +1,4 @@
 -- `lines::digit` meets its contract.
-use borrow.Author.Rules.{rules}
-use native.Mathlib.Omega.{arith}
 use Rattle.lines.proofs.Laws.{below-0, decimal, below-a, letter, above-f}
 use Rattle.lines.proofs.digit.Goals as goal
 

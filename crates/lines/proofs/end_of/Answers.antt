@@ -1,10 +1,6 @@
 -- `lines::end_of` meets its contract. The loop's invariant: the field ends where the one from `at` on does.
-use borrow.Author.Rules.{rules}
-use Prim.Native.Nat.{◌+◌, ◌-◌, ◌≤◌}
-use mathlib.Core.Path.{◌≡◌, refl, sym, ◌∙◌}
+use mathlib.Core.Path.{refl, sym, ◌∙◌}
 use native.Mathlib.Omega.{arith}
-use lib.ListN.{length, drop}
-use Rattle.lines.specs.Fields.{up_to}
 use Rattle.lines.proofs.Laws.{up-out, up-here, up-on}
 use Rattle.lines.proofs.end_of.Goals as goal
 
@@ -13,7 +9,7 @@ loop-at-init c = (refl, λ h. h, omega arith)
 
 pub returns-then-bytes-at : goal.returns-then-bytes-at
 returns-then-bytes-at c =
-        let i = c.loop-at.invariant in
+    let i = c.loop-at.invariant in
     record {
       value = sym (i.0 ∙ up-here _ _ _ c.loop-at-test.true c.if-bytes-at.true);
       upper_bound = (i.1, i.2);
@@ -26,7 +22,7 @@ loop-at-preserved c =
 
 pub returns : goal.returns
 returns c =
-        let i = c.loop-at.invariant in
+    let i = c.loop-at.invariant in
     record {
       value = sym (i.0 ∙ up-out _ _ _ c.loop-at-test.false);
       upper_bound = (i.1, i.2);

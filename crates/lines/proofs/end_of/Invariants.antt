@@ -1,11 +1,8 @@
 -- `lines::end_of` meets its contract. The loop's invariant: the field ends where the one from `at` on does.
-use borrow.Author.Rules.{rules}
 use Prim.Native.Nat.{◌+◌, ◌-◌, ◌≤◌}
-use mathlib.Core.Path.{◌≡◌, refl, sym, ◌∙◌}
-use native.Mathlib.Omega.{arith}
+use mathlib.Core.Path.{◌≡◌}
 use lib.ListN.{length, drop}
 use Rattle.lines.specs.Fields.{up_to}
-use Rattle.lines.proofs.Laws.{up-out, up-here, up-on}
 use Rattle.lines.proofs.end_of.Given as goal
 
 abbrev pub invariant-loop-at : goal.invariant-loop-at

@@ -1,5 +1,4 @@
 -- `lines::readable` meets its contract.
-use borrow.Author.Rules.{rules}
 use mathlib.Core.Path.{◌∙◌}
 use Rattle.lines.proofs.Laws.{read-empty, read_one, read-odd, read-long, read-digits}
 use Rattle.lines.proofs.readable.Goals as goal

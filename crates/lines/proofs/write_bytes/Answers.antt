@@ -1,9 +1,8 @@
 -- `lines::write_bytes` meets its contract. The loop's invariant: with what is left put behind, the buffer is as it is to be.
-use borrow.Author.Rules.{rules}
-use Prim.Native.Nat.{◌+◌, ◌-◌}
-use mathlib.Core.Path.{◌≡◌, refl, sym, ap, ◌∙◌}
+use Prim.Native.Nat.{◌+◌}
+use mathlib.Core.Path.{refl, sym, ap, ◌∙◌}
 use native.Mathlib.Omega.{arith}
-use lib.ListN.{length, drop, set, length-set}
+use lib.ListN.{drop, set, length-set}
 use Rattle.theory.specs.Buffers.{put}
 use Rattle.lines.specs.Hex.{pairs_of}
 use Rattle.lines.proofs.Laws.{digit_at, write-next, write_done}

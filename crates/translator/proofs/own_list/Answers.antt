@@ -5,7 +5,6 @@ use mathlib.Core.List.{List}
 use Prim.Native.Nat.{ℕ, ◌≤◌, ◌<◌}
 use native.Mathlib.Omega.{arith}
 use lib.ListN.{length}
-use borrow.Author.Rules.{rules}
 use borrow.Author.Tests.{le-leb, lt-leb}
 use Rattle.theory.specs.Syntax.{pick}
 use Rattle.theory.specs.Words.{stored_rules}
@@ -29,30 +28,29 @@ fits ws d h =
 pub word_of_size-n-requires : goal.word_of_size-n-requires
 word_of_size-n-requires c =
     let ready : let a = c.args in Ready a.arities.now a.program.now a.openings.now a.exceptions a.functions =
-        let a = c.args in accepted-ready a.arities.now a.program.now a.openings.now a.exceptions a.functions c.requires in
-     omega (arith, ready.few)
+    let a = c.args in accepted-ready a.arities.now a.program.now a.openings.now a.exceptions a.functions c.requires in
+    omega (arith, ready.few)
 
 pub byte_of_size-m-requires : goal.byte_of_size-m-requires
 byte_of_size-m-requires c =
     let ready : let a = c.args in Ready a.arities.now a.program.now a.openings.now a.exceptions a.functions =
-        let a = c.args in accepted-ready a.arities.now a.program.now a.openings.now a.exceptions a.functions c.requires in
-     omega (arith, ready.functions)
+    let a = c.args in accepted-ready a.arities.now a.program.now a.openings.now a.exceptions a.functions c.requires in
+    omega (arith, ready.functions)
 
 pub list_length-size-requires : goal.list_length-size-requires
 list_length-size-requires c =
     let held : let a = c.args in Ready a.arities.now a.program.now a.openings.now c.word_of_size-n.result c.byte_of_size-m.result =
-        let a = c.args in
+    let a = c.args in
     ready-as a.arities.now a.program.now a.openings.now a.exceptions a.functions c.word_of_size-n.result c.byte_of_size-m.result c.requires c.word_of_size-n.ensures c.byte_of_size-m.ensures in
-     (held.listed, held.small, held.few)
+    (held.listed, held.small, held.few)
 
 pub returns-then-dst-size : goal.returns-then-dst-size
 returns-then-dst-size c =
-        let held : let a = c.args in Ready a.arities.now a.program.now a.openings.now c.word_of_size-n.result c.byte_of_size-m.result =
-        let a = c.args in
+    let held : let a = c.args in Ready a.arities.now a.program.now a.openings.now c.word_of_size-n.result c.byte_of_size-m.result =
+    let a = c.args in
     ready-as a.arities.now a.program.now a.openings.now a.exceptions a.functions c.word_of_size-n.result c.byte_of_size-m.result c.requires c.word_of_size-n.ensures c.byte_of_size-m.ensures in
     let list : List ℕ =
-        let a = c.args in stored_rules (own_in a.arities.now a.program.now c.word_of_size-n.result c.byte_of_size-m.result) in
-    
+    let a = c.args in stored_rules (own_in a.arities.now a.program.now c.word_of_size-n.result c.byte_of_size-m.result) in
     let a = c.args in
     let t = too_long list a.dst.now (let h = c.if-dst-size.true in omega (arith, h, c.list_length-size.ensures)) in
     record {
@@ -62,13 +60,13 @@ returns-then-dst-size c =
 
 pub put_list-requires : goal.put_list-requires
 put_list-requires c =
-        let held : let a = c.args in Ready a.arities.now a.program.now a.openings.now c.word_of_size-n.result c.byte_of_size-m.result =
-        let a = c.args in
+    let held : let a = c.args in Ready a.arities.now a.program.now a.openings.now c.word_of_size-n.result c.byte_of_size-m.result =
+    let a = c.args in
     ready-as a.arities.now a.program.now a.openings.now a.exceptions a.functions c.word_of_size-n.result c.byte_of_size-m.result c.requires c.word_of_size-n.ensures c.byte_of_size-m.ensures in
     let list : List ℕ =
-        let a = c.args in stored_rules (own_in a.arities.now a.program.now c.word_of_size-n.result c.byte_of_size-m.result) in
+    let a = c.args in stored_rules (own_in a.arities.now a.program.now c.word_of_size-n.result c.byte_of_size-m.result) in
     let room : let a = c.args in length list ≤ length a.dst.now =
-        let h = c.if-dst-size.false in omega (arith, h, c.list_length-size.ensures) in
+    let h = c.if-dst-size.false in omega (arith, h, c.list_length-size.ensures) in
     record {
       listed = (held.listed, held.small, held.few);
       room = (let r = room in omega (arith, r));
@@ -76,14 +74,13 @@ put_list-requires c =
 
 pub returns : goal.returns
 returns c =
-        let held : let a = c.args in Ready a.arities.now a.program.now a.openings.now c.word_of_size-n.result c.byte_of_size-m.result =
-        let a = c.args in
+    let held : let a = c.args in Ready a.arities.now a.program.now a.openings.now c.word_of_size-n.result c.byte_of_size-m.result =
+    let a = c.args in
     ready-as a.arities.now a.program.now a.openings.now a.exceptions a.functions c.word_of_size-n.result c.byte_of_size-m.result c.requires c.word_of_size-n.ensures c.byte_of_size-m.ensures in
     let list : List ℕ =
-        let a = c.args in stored_rules (own_in a.arities.now a.program.now c.word_of_size-n.result c.byte_of_size-m.result) in
+    let a = c.args in stored_rules (own_in a.arities.now a.program.now c.word_of_size-n.result c.byte_of_size-m.result) in
     let room : let a = c.args in length list ≤ length a.dst.now =
-        let h = c.if-dst-size.false in omega (arith, h, c.list_length-size.ensures) in
-    
+    let h = c.if-dst-size.false in omega (arith, h, c.list_length-size.ensures) in
     let a = c.args in
     let f = fits list a.dst.now room in
     let n : c.put_list.result ≡ length list = omega (arith, c.put_list.ensures.place) in

@@ -11,7 +11,7 @@ use Rattle.translator.proofs.question_length.Goals as goal
 
 pub size_of-ends-requires : goal.size_of-ends-requires
 size_of-ends-requires c =
-        let k = asked-asks c.args.arities.now c.args.question.now c.requires in
+    let k = asked-asks c.args.arities.now c.args.question.now c.requires in
     record {
       p_in_bounds = (omega arith, k.whole);
       n_bound = omega (arith, k.small);

@@ -2,7 +2,6 @@
 use mathlib.Core.Path.{ap, ◌∙◌}
 use native.Mathlib.Omega.{arith}
 use lib.ListN.{length}
-use borrow.Author.Rules.{rules}
 use Rattle.theory.specs.Syntax.{Term}
 use Rattle.theory.specs.Buffers.{over}
 use Rattle.theory.specs.Words.{words}
@@ -12,7 +11,7 @@ use Rattle.translator.proofs.question_words.Goals as goal
 
 pub term_words-ends-requires : goal.term_words-ends-requires
 term_words-ends-requires c =
-        let a = c.args in
+    let a = c.args in
     let q = c.requires.asked in
     let s = question-stands q.declared a.arities.now a.question.now q.term q.agrees q.read in
     let fits = c.requires.of_question q.declared q.term q.agrees q.read in
@@ -24,7 +23,7 @@ term_words-ends-requires c =
 
 pub returns : goal.returns
 returns c =
-        let a = c.args in
+    let a = c.args in
     record {
       of_question_2 = λ D t h e. (let s = ap (λ (u : Term). length (words (tree u))) (question-stands D a.arities.now a.question.now t h e).1 in omega (arith, s, c.term_words-ends.ensures.wrote.place));
       of_question_3 = λ D t h e. (c.term_words-ends.ensures.wrote.words ∙ ap (λ (u : Term). over (words (tree u)) a.dst.now) (question-stands D a.arities.now a.question.now t h e).1);

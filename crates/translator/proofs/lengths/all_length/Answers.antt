@@ -1,6 +1,6 @@
 -- `lengths::all_length` meets its contract. The invariant: the rules of the functions below f are counted.
-use mathlib.Core.Path.{◌≡◌, refl, ap, ◌∙◌}
-use Prim.Native.Nat.{ℕ, ◌-◌, ◌*◌, ◌≤◌}
+use mathlib.Core.Path.{refl, ap, ◌∙◌}
+use Prim.Native.Nat.{ℕ}
 use native.Mathlib.Nat.{le_antisymm}
 use native.Mathlib.Omega.{arith}
 use lib.ListN.{length, length-append}
@@ -36,7 +36,7 @@ loop-f-preserved c =
 
 pub returns : goal.returns
 returns c =
-        let a = c.args in
+    let a = c.args in
     let e = le_antisymm c.loop-f.invariant.0 c.loop-f-test.false in
     record {
       value = c.loop-f.invariant.1 ∙ ap (λ (i : ℕ). length (below (rules_for a.arities.now a.program.now) i)) e;

@@ -1,11 +1,8 @@
 -- `lengths::all_length` meets its contract. The invariant: the rules of the functions below f are counted.
-use mathlib.Core.Path.{◌≡◌, refl, ap, ◌∙◌}
-use Prim.Native.Nat.{ℕ, ◌-◌, ◌*◌, ◌≤◌}
-use native.Mathlib.Nat.{le_antisymm}
-use native.Mathlib.Omega.{arith}
-use lib.ListN.{length, length-append}
-use Rattle.theory.specs.Words.{stored_rules}
-use Rattle.generated.proofs.Writes.{below, below_more}
+use mathlib.Core.Path.{◌≡◌}
+use Prim.Native.Nat.{◌-◌, ◌*◌, ◌≤◌}
+use lib.ListN.{length}
+use Rattle.generated.proofs.Writes.{below}
 use Rattle.translator.specs.List.{rules_for}
 use Rattle.translator.proofs.lengths.all_length.Given as goal
 

@@ -2,7 +2,6 @@
 use mathlib.Core.Path.{◌≡◌, ap, ◌∙◌}
 use Prim.Native.Nat.{ℕ, ◌+◌, ◌*◌, ◌≤◌}
 use native.Mathlib.Omega.{arith}
-use borrow.Author.Rules.{rules}
 use lib.ListN.{length}
 use Rattle.theory.specs.Words.{stored_rules}
 use Rattle.theory.specs.Translation.{exn_rules}
@@ -12,19 +11,19 @@ use Rattle.translator.proofs.lengths.exception_length.Goals as goal
 pub overflow_mul-result-3 : goal.overflow_mul-result-3
 overflow_mul-result-3 c =
     let counts : let k = c.size_of_word-k.result in (17 * k + 10 * k * k ≡ length (stored_rules (exn_rules k))) × (10 * k * k ≤ 2560) =
-        exn-count c.size_of_word-k.result (omega (arith, c.size_of_word-k.ensures.value)) in
-     omega (arith, counts.1)
+    exn-count c.size_of_word-k.result (omega (arith, c.size_of_word-k.ensures.value)) in
+    omega (arith, counts.1)
 
 pub overflow_add-result : goal.overflow_add-result
 overflow_add-result c =
     let counts : let k = c.size_of_word-k.result in (17 * k + 10 * k * k ≡ length (stored_rules (exn_rules k))) × (10 * k * k ≤ 2560) =
-        exn-count c.size_of_word-k.result (omega (arith, c.size_of_word-k.ensures.value)) in
-     omega (arith, counts.1, c.size_of_word-k.ensures.value)
+    exn-count c.size_of_word-k.result (omega (arith, c.size_of_word-k.ensures.value)) in
+    omega (arith, counts.1, c.size_of_word-k.ensures.value)
 
 pub returns : goal.returns
 returns c =
-        let counts : let k = c.size_of_word-k.result in (17 * k + 10 * k * k ≡ length (stored_rules (exn_rules k))) × (10 * k * k ≤ 2560) =
-        exn-count c.size_of_word-k.result (omega (arith, c.size_of_word-k.ensures.value)) in
+    let counts : let k = c.size_of_word-k.result in (17 * k + 10 * k * k ≡ length (stored_rules (exn_rules k))) × (10 * k * k ≤ 2560) =
+    exn-count c.size_of_word-k.result (omega (arith, c.size_of_word-k.ensures.value)) in
     record {
       value = counts.0 ∙ ap (λ (k : ℕ). length (stored_rules (exn_rules k))) c.size_of_word-k.ensures.value;
       upper_bound = omega (arith, counts.1, c.size_of_word-k.ensures.value);

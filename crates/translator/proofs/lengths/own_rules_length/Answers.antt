@@ -1,10 +1,9 @@
 -- `lengths::own_rules_length` meets its contract. The invariant is that of `rules::own_rules`, of writing into nothing; and a bound.
 use mathlib.Core.Path.{sym, subst}
 use mathlib.Core.List.{[]}
-use Prim.Native.Nat.{ℕ, ◌+◌, ◌-◌, ◌*◌, ◌≤◌}
+use Prim.Native.Nat.{ℕ, ◌+◌}
 use native.Mathlib.Omega.{arith}
 use lib.ListN.{length, get_or}
-use borrow.Author.Rules.{rules}
 use Rattle.translator.specs.Opened.{rule_if}
 use Rattle.translator.specs.Listed.{rules_in}
 use Rattle.translator.proofs.Laws.{Scanned, Turn, scanned-start, scanned-end, turn-of, turn-opened, turn-next}
@@ -19,9 +18,8 @@ loop-i-init c =
 pub rule_length-count-requires : goal.rule_length-count-requires
 rule_length-count-requires c =
     let turn : let a = c.args in Turn a.f a.n a.arities.now a.program.now a.openings.now (rules_in a.program.now) 0 [] [] c.loop-i.i c.loop-i.count =
-        let a = c.args in
+    let a = c.args in
     turn-of a.f a.n a.arities.now a.program.now a.openings.now (rules_in a.program.now) 0 [] [] c.loop-i.i c.loop-i.count c.loop-i.invariant.0 c.loop-i-test.true in
-    
     let a = c.args in
     turn-opened a.f a.n a.arities.now a.program.now a.openings.now (rules_in a.program.now) 0 [] c.requires.n_value [] c.loop-i.i c.loop-i.count turn
 
@@ -33,9 +31,8 @@ overflow_add-count c =
 pub loop-i-preserved : goal.loop-i-preserved
 loop-i-preserved c =
     let turn : let a = c.args in Turn a.f a.n a.arities.now a.program.now a.openings.now (rules_in a.program.now) 0 [] [] c.loop-i.i c.loop-i.count =
-        let a = c.args in
+    let a = c.args in
     turn-of a.f a.n a.arities.now a.program.now a.openings.now (rules_in a.program.now) 0 [] [] c.loop-i.i c.loop-i.count c.loop-i.invariant.0 c.loop-i-test.true in
-    
     let a = c.args in
     let this = rule_if a.arities.now a.program.now (get_or a.openings.now c.loop-i.i 0) a.f a.n in (
       subst (λ (k : ℕ). Scanned a.f a.n a.arities.now a.program.now a.openings.now (rules_in a.program.now) 0 [] [] (c.loop-i.i + 1) (c.loop-i.count + k)) (sym c.rule_length-count.ensures.value)
@@ -46,7 +43,7 @@ loop-i-preserved c =
 
 pub returns : goal.returns
 returns c =
-        let a = c.args in
+    let a = c.args in
     let w = scanned-end a.f a.n a.arities.now a.program.now a.openings.now (rules_in a.program.now) 0 [] [] c.loop-i.i c.loop-i.count c.loop-i.invariant.0 c.loop-i-test.false in
     let few = c.requires.listed.few in
     record {

@@ -1,14 +1,9 @@
 -- `lengths::own_rules_length` meets its contract. The invariant is that of `rules::own_rules`, of writing into nothing; and a bound.
-use mathlib.Core.Path.{sym, subst}
 use mathlib.Core.List.{[]}
-use Prim.Native.Nat.{ℕ, ◌+◌, ◌-◌, ◌*◌, ◌≤◌}
-use native.Mathlib.Omega.{arith}
-use lib.ListN.{length, get_or}
-use borrow.Author.Rules.{rules}
-use Rattle.translator.specs.Opened.{rule_if}
+use Prim.Native.Nat.{◌-◌, ◌*◌, ◌≤◌}
+use lib.ListN.{length}
 use Rattle.translator.specs.Listed.{rules_in}
-use Rattle.translator.proofs.Laws.{Scanned, Turn, scanned-start, scanned-end, turn-of, turn-opened, turn-next}
-use Rattle.translator.proofs.Counts.{wrote-empty}
+use Rattle.translator.proofs.Laws.{Scanned}
 use Rattle.translator.proofs.lengths.own_rules_length.Given as goal
 
 abbrev pub invariant-loop-i : goal.invariant-loop-i

@@ -3,7 +3,6 @@ use mathlib.Core.Path.{sym, ap, ap₂, ◌∙◌}
 use Prim.Native.Nat.{ℕ, ◌+◌}
 use native.Mathlib.Omega.{arith}
 use lib.ListN.{length}
-use borrow.Author.Rules.{rules}
 use Rattle.translator.specs.declared.rules.Sizes.{Sizes}
 use Rattle.translator.proofs.Laws.{if-same, if_other}
 use Rattle.translator.proofs.Counts.{rule-count}
@@ -14,7 +13,7 @@ rule_sizes-s-requires c = c.requires.opened c.if-program-p.true
 
 pub returns-then-program-p : goal.returns-then-program-p
 returns-then-program-p c =
-        let a = c.args in
+    let a = c.args in
     let o = c.requires.opened c.if-program-p.true in
     let l = c.size_of_word.ensures.value ∙ ap (λ (x : Sizes). x.left) c.rule_sizes-s.ensures in
     let r = c.size_of_word-then-program-p.ensures.value ∙ ap (λ (x : Sizes). x.right) c.rule_sizes-s.ensures in
@@ -27,7 +26,7 @@ returns-then-program-p c =
 
 pub returns : goal.returns
 returns c =
-        let a = c.args in
+    let a = c.args in
     record {
       value = sym (ap length (if_other a.arities.now a.program.now a.p a.f a.n c.if-program-p.false));
       upper_bound = omega arith;

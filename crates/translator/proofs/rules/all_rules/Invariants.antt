@@ -1,10 +1,7 @@
 -- `rules::all_rules` meets its contract. The invariant: the rules of the functions below f are written.
-use mathlib.Core.Path.{ap}
 use Prim.Native.Nat.{◌-◌, ◌≤◌}
-use native.Mathlib.Nat.{le_antisymm}
-use native.Mathlib.Omega.{arith}
 use Rattle.generated.specs.Wrote.{Wrote}
-use Rattle.generated.proofs.Writes.{below, wrote_none, wrote-length, wrote_as, turn-room, turn_more}
+use Rattle.generated.proofs.Writes.{below}
 use Rattle.translator.specs.List.{rules_for}
 use Rattle.translator.proofs.rules.all_rules.Given as goal
 

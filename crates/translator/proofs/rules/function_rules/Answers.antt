@@ -10,23 +10,21 @@ use Rattle.generated.proofs.Writes.{wrote_as, wrote_then, room_as, room-first, r
 use Rattle.translator.specs.Listed.{rules_in, rules_words}
 use Rattle.translator.specs.List.{rules_for}
 use Rattle.translator.proofs.Laws.{fun-words}
-use borrow.Author.Rules.{rules}
 use Rattle.translator.proofs.rules.function_rules.Goals as goal
 
 pub call_rules-guarded-requires : goal.call_rules-guarded-requires
 call_rules-guarded-requires c =
-        let first : List ℕ =
-        stored_rules (call_rules (16 + c.word_of_byte-k.result) c.word_of_byte-n.result) in
+    let first : List ℕ =
+    stored_rules (call_rules (16 + c.word_of_byte-k.result) c.word_of_byte-n.result) in
     let last : List ℕ =
-        let a = c.args in rules_words a.f c.arity_of-arity.result (rules_in a.program.now) in
+    let a = c.args in rules_words a.f c.arity_of-arity.result (rules_in a.program.now) in
     let all : let a = c.args in stored_rules (rules_for a.arities.now a.program.now a.f) ≡ first ++ last =
-        let a = c.args in
+    let a = c.args in
     let n = c.arity_of-arity.ensures in
     fun-words a.arities.now a.program.now a.f (16 + c.word_of_byte-k.result) c.word_of_byte-n.result c.arity_of-arity.result
     (ap (16 +◌) c.word_of_byte-k.ensures.value) (c.word_of_byte-n.ensures.value ∙ n) n in
     let room : let a = c.args in Room (first ++ last) a.at a.dst.now =
-        room_as c.args.at c.args.dst.now all c.requires.room in
-    
+    room_as c.args.at c.args.dst.now all c.requires.room in
     let a = c.args in
     record {
       k_bound = (omega (arith, c.word_of_byte-k.ensures.value), omega (arith, c.requires.listed.1, c.word_of_byte-n.ensures.value, c.arity_of-arity.ensures));
@@ -35,18 +33,17 @@ call_rules-guarded-requires c =
 
 pub own_rules-requires : goal.own_rules-requires
 own_rules-requires c =
-        let first : List ℕ =
-        stored_rules (call_rules (16 + c.word_of_byte-k.result) c.word_of_byte-n.result) in
+    let first : List ℕ =
+    stored_rules (call_rules (16 + c.word_of_byte-k.result) c.word_of_byte-n.result) in
     let last : List ℕ =
-        let a = c.args in rules_words a.f c.arity_of-arity.result (rules_in a.program.now) in
+    let a = c.args in rules_words a.f c.arity_of-arity.result (rules_in a.program.now) in
     let all : let a = c.args in stored_rules (rules_for a.arities.now a.program.now a.f) ≡ first ++ last =
-        let a = c.args in
+    let a = c.args in
     let n = c.arity_of-arity.ensures in
     fun-words a.arities.now a.program.now a.f (16 + c.word_of_byte-k.result) c.word_of_byte-n.result c.arity_of-arity.result
     (ap (16 +◌) c.word_of_byte-k.ensures.value) (c.word_of_byte-n.ensures.value ∙ n) n in
     let room : let a = c.args in Room (first ++ last) a.at a.dst.now =
-        room_as c.args.at c.args.dst.now all c.requires.room in
-    
+    room_as c.args.at c.args.dst.now all c.requires.room in
     let a = c.args in
     let n = c.arity_of-arity.ensures in
     record {
@@ -58,13 +55,12 @@ own_rules-requires c =
 pub returns : goal.returns
 returns c =
     let first : List ℕ =
-        stored_rules (call_rules (16 + c.word_of_byte-k.result) c.word_of_byte-n.result) in
+    stored_rules (call_rules (16 + c.word_of_byte-k.result) c.word_of_byte-n.result) in
     let last : List ℕ =
-        let a = c.args in rules_words a.f c.arity_of-arity.result (rules_in a.program.now) in
+    let a = c.args in rules_words a.f c.arity_of-arity.result (rules_in a.program.now) in
     let all : let a = c.args in stored_rules (rules_for a.arities.now a.program.now a.f) ≡ first ++ last =
-        let a = c.args in
+    let a = c.args in
     let n = c.arity_of-arity.ensures in
     fun-words a.arities.now a.program.now a.f (16 + c.word_of_byte-k.result) c.word_of_byte-n.result c.arity_of-arity.result
     (ap (16 +◌) c.word_of_byte-k.ensures.value) (c.word_of_byte-n.ensures.value ∙ n) n in
-    
     wrote_as (sym all) (wrote_then c.call_rules-guarded.ensures c.own_rules.ensures)

@@ -1,10 +1,7 @@
 -- `rules::own_rules` meets its contract. The invariant: the first i rules are passed, and those of f among them are written.
-use Prim.Native.Nat.{◌-◌}
-use lib.ListN.{length}
-use borrow.Author.Rules.{rules}
 use Rattle.generated.proofs.Writes.{wrote-length}
 use Rattle.translator.specs.Listed.{rules_in}
-use Rattle.translator.proofs.Laws.{Scanned, Turn, scanned-start, scanned-end, turn-of, turn-opened, turn-room, turn-next}
+use Rattle.translator.proofs.Laws.{Turn, scanned-start, scanned-end, turn-of, turn-opened, turn-room, turn-next}
 use Rattle.translator.proofs.rules.own_rules.Goals as goal
 
 pub loop-i-init : goal.loop-i-init
@@ -14,10 +11,9 @@ loop-i-init c =
 
 pub put_rule_if-next-requires : goal.put_rule_if-next-requires
 put_rule_if-next-requires c =
-        let turn : let a = c.args in Turn a.f a.n a.arities.now a.program.now a.openings.now (rules_in a.program.now) a.at a.dst.now c.loop-i.dst c.loop-i.i c.loop-i.next =
-        let a = c.args in
+    let turn : let a = c.args in Turn a.f a.n a.arities.now a.program.now a.openings.now (rules_in a.program.now) a.at a.dst.now c.loop-i.dst c.loop-i.i c.loop-i.next =
+    let a = c.args in
     turn-of a.f a.n a.arities.now a.program.now a.openings.now (rules_in a.program.now) a.at a.dst.now c.loop-i.dst c.loop-i.i c.loop-i.next c.loop-i.invariant c.loop-i-test.true in
-    
     let a = c.args in
     let is = c.requires.n_bound.1 in
     record {
@@ -29,9 +25,8 @@ put_rule_if-next-requires c =
 pub loop-i-preserved : goal.loop-i-preserved
 loop-i-preserved c =
     let turn : let a = c.args in Turn a.f a.n a.arities.now a.program.now a.openings.now (rules_in a.program.now) a.at a.dst.now c.loop-i.dst c.loop-i.i c.loop-i.next =
-        let a = c.args in
+    let a = c.args in
     turn-of a.f a.n a.arities.now a.program.now a.openings.now (rules_in a.program.now) a.at a.dst.now c.loop-i.dst c.loop-i.i c.loop-i.next c.loop-i.invariant c.loop-i-test.true in
-    
     let a = c.args in
     turn-next a.f a.n a.arities.now a.program.now a.openings.now (rules_in a.program.now) a.at a.dst.now c.requires.n_bound.1 c.loop-i.dst c.loop-i.i c.loop-i.next turn
     c.put_rule_if-next.new.dst c.put_rule_if-next.result c.put_rule_if-next.ensures

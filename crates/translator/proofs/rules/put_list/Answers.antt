@@ -1,7 +1,6 @@
 -- `rules::put_list` meets its contract: the rules of exceptions, and then those of functions.
 use mathlib.Core.Path.{◌≡◌, sym}
 use mathlib.Core.List.{◌++◌}
-use borrow.Author.Rules.{rules}
 use Rattle.theory.specs.Words.{stored_rules}
 use Rattle.theory.specs.Translation.{exn_rules, gather, numbers}
 use Rattle.theory.proofs.Readability.{list-append}
@@ -11,9 +10,8 @@ use Rattle.translator.proofs.rules.put_list.Goals as goal
 
 pub exception_rules-functions-requires : goal.exception_rules-functions-requires
 exception_rules-functions-requires c =
-        let all : let a = c.args in stored_rules (own_in a.arities.now a.program.now a.n a.m) ≡ stored_rules (exn_rules a.n) ++ below (rules_for a.arities.now a.program.now) a.m =
-        let a = c.args in list-append (exn_rules a.n) (gather (rules_for a.arities.now a.program.now) (numbers 0 a.m)) in
-    
+    let all : let a = c.args in stored_rules (own_in a.arities.now a.program.now a.n a.m) ≡ stored_rules (exn_rules a.n) ++ below (rules_for a.arities.now a.program.now) a.m =
+    let a = c.args in list-append (exn_rules a.n) (gather (rules_for a.arities.now a.program.now) (numbers 0 a.m)) in
     let a = c.args in
     record {
       n_bound = c.requires.listed.2;
@@ -22,9 +20,8 @@ exception_rules-functions-requires c =
 
 pub all_rules-requires : goal.all_rules-requires
 all_rules-requires c =
-        let all : let a = c.args in stored_rules (own_in a.arities.now a.program.now a.n a.m) ≡ stored_rules (exn_rules a.n) ++ below (rules_for a.arities.now a.program.now) a.m =
-        let a = c.args in list-append (exn_rules a.n) (gather (rules_for a.arities.now a.program.now) (numbers 0 a.m)) in
-    
+    let all : let a = c.args in stored_rules (own_in a.arities.now a.program.now a.n a.m) ≡ stored_rules (exn_rules a.n) ++ below (rules_for a.arities.now a.program.now) a.m =
+    let a = c.args in list-append (exn_rules a.n) (gather (rules_for a.arities.now a.program.now) (numbers 0 a.m)) in
     let a = c.args in
     record {
       listed = (c.requires.listed.0, c.requires.listed.1);
@@ -34,6 +31,5 @@ all_rules-requires c =
 pub returns : goal.returns
 returns c =
     let all : let a = c.args in stored_rules (own_in a.arities.now a.program.now a.n a.m) ≡ stored_rules (exn_rules a.n) ++ below (rules_for a.arities.now a.program.now) a.m =
-        let a = c.args in list-append (exn_rules a.n) (gather (rules_for a.arities.now a.program.now) (numbers 0 a.m)) in
-    
+    let a = c.args in list-append (exn_rules a.n) (gather (rules_for a.arities.now a.program.now) (numbers 0 a.m)) in
     wrote_as (sym all) (wrote_then c.exception_rules-functions.ensures c.all_rules.ensures)

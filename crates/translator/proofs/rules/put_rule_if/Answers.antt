@@ -6,7 +6,6 @@ use Rattle.theory.specs.Words.{stored_rule}
 use Rattle.generated.proofs.Writes.{wrote_none, wrote_as, room_as}
 use Rattle.translator.specs.Opened.{rule_if, rule_at}
 use Rattle.translator.proofs.Laws.{if-same, if_other}
-use borrow.Author.Rules.{rules}
 use Rattle.translator.proofs.rules.put_rule_if.Goals as goal
 
 pub rule_sizes-s-requires : goal.rule_sizes-s-requires
@@ -14,8 +13,8 @@ rule_sizes-s-requires c = c.requires.opened_for.opened c.if-program-p.true
 
 pub put_rule-requires : goal.put_rule-requires
 put_rule-requires c =
-        let same : let a = c.args in rule_if a.arities.now a.program.now a.p a.f a.n ≡ stored_rule (rule_at a.arities.now a.program.now a.p (16 + c.word_of_byte.result) a.n) =
-        let a = c.args in
+    let same : let a = c.args in rule_if a.arities.now a.program.now a.p a.f a.n ≡ stored_rule (rule_at a.arities.now a.program.now a.p (16 + c.word_of_byte.result) a.n) =
+    let a = c.args in
     if-same a.arities.now a.program.now a.p a.f a.n c.if-program-p.true
     ∙ ap (λ (i : ℕ). stored_rule (rule_at a.arities.now a.program.now a.p (16 + i) a.n)) (sym c.word_of_byte.ensures.value) in
     record {
@@ -27,10 +26,9 @@ put_rule-requires c =
 pub returns-then-program-p : goal.returns-then-program-p
 returns-then-program-p c =
     let same : let a = c.args in rule_if a.arities.now a.program.now a.p a.f a.n ≡ stored_rule (rule_at a.arities.now a.program.now a.p (16 + c.word_of_byte.result) a.n) =
-        let a = c.args in
+    let a = c.args in
     if-same a.arities.now a.program.now a.p a.f a.n c.if-program-p.true
     ∙ ap (λ (i : ℕ). stored_rule (rule_at a.arities.now a.program.now a.p (16 + i) a.n)) (sym c.word_of_byte.ensures.value) in
-    
     wrote_as (sym same) c.put_rule.ensures
 
 pub returns : goal.returns

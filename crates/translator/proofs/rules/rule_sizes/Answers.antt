@@ -6,7 +6,6 @@ use Rattle.term_words.specs.Records.{Whole, count_of, from}
 use Rattle.term_words.specs.Late.{most_owed}
 use Rattle.translator.specs.declared.rules.Sizes.{Sizes}
 use Rattle.translator.specs.Opened.{right_at}
-use borrow.Author.Rules.{rules}
 use Rattle.translator.proofs.rules.rule_sizes.Goals as goal
 
 abbrev sized : ℕ → ℕ → ℕ → Sizes
@@ -14,9 +13,8 @@ sized l r m = record { left = l; right = r; middle = m }
 
 pub size_of-right-requires : goal.size_of-right-requires
 size_of-right-requires c =
-        let middle : let a = c.args in c.size_of-left.result.from ≡ right_at a.arities.now a.program.now a.p a.n =
-        c.size_of-left.ensures.passed.place in
-    
+    let middle : let a = c.args in c.size_of-left.result.from ≡ right_at a.arities.now a.program.now a.p a.n =
+    c.size_of-left.ensures.passed.place in
     let a = c.args in
     let small = subst (λ (q : ℕ). count_of (from a.arities.now a.program.now q) 1 ≤ most_owed) (sym middle) c.requires.small_right in
     record {
@@ -27,8 +25,7 @@ size_of-right-requires c =
 pub word_of_size-requires-2 : goal.word_of_size-requires-2
 word_of_size-requires-2 c =
     let middle : let a = c.args in c.size_of-left.result.from ≡ right_at a.arities.now a.program.now a.p a.n =
-        c.size_of-left.ensures.passed.place in
-    
+    c.size_of-left.ensures.passed.place in
     let a = c.args in
     let small = subst (λ (q : ℕ). count_of (from a.arities.now a.program.now q) 1 ≤ most_owed) (sym middle) c.requires.small_right in
     omega (arith, small, c.size_of-right.ensures.to_value)
@@ -36,8 +33,7 @@ word_of_size-requires-2 c =
 pub returns : goal.returns
 returns c =
     let middle : let a = c.args in c.size_of-left.result.from ≡ right_at a.arities.now a.program.now a.p a.n =
-        c.size_of-left.ensures.passed.place in
-    
+    c.size_of-left.ensures.passed.place in
     let a = c.args in
     let q = c.size_of-left.result.from in
     let count : ℕ → ℕ = λ i. count_of (from a.arities.now a.program.now i) 1 in
