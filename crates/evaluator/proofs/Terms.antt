@@ -12,7 +12,7 @@ use Rattle.theory.proofs.Shape.{len-trees}
 use Rattle.theory.specs.Syntax.{Base, zero_b, true_b, false_b, Val, Term, const, succ, tvar, raise, handle, cond, call, Terms, tnil, tcons, many, Program, Bindings, Found as TheoryFound, chosen, pick}
 use Rattle.theory.specs.Cost.{Args, vals, ended}
 use Rattle.theory.specs.Budget.{Remaining, ends_leaving, ran_out, then_with, PayingEv, pay_args, body_pays, call_pays, pay_eval}
-use Rattle.theory.specs.Tree.{[·], size, len}
+use Rattle.theory.specs.Tree.{[·], size}
 use Rattle.theory.specs.Words.{Shaped, Shapeds}
 use Rattle.theory.specs.Translation.{aux, exn_t, tree, trees}
 use Rattle.words.specs.Terms.{arity_of}

@@ -3,7 +3,6 @@ use mathlib.Core.Path.{ap}
 use native.Mathlib.Omega.{arith}
 use Rattle.evaluator.specs.Evaluation.{paid_of, evaluated}
 use Rattle.evaluator.proofs.Bounds.{small-nones}
-use borrow.Author.Rules.{rules}
 use Rattle.evaluator.proofs.evaluate.Goals as goal
 
 pub eval-a-requires : goal.eval-a-requires

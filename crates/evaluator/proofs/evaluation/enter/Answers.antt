@@ -1,6 +1,5 @@
 -- `evaluation::enter` meets its contract.
 use Rattle.evaluator.specs.Evaluation.{entered_of}
-use borrow.Author.Rules.{rules}
 use Rattle.evaluator.proofs.evaluation.enter.Goals as goal
 
 pub returns-in-Ends : goal.returns-in-Ends

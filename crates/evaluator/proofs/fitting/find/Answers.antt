@@ -1,9 +1,5 @@
 -- `fitting::find` meets its contract. The loop's invariant: the first rule that fits is the first from here on.
-use mathlib.Core.Path.{◌≡◌, refl, sym, ◌∙◌}
-use Prim.Native.Nat.{◌-◌}
-use lib.ListN.{length}
-use borrow.Author.Rules.{rules}
-use Rattle.evaluator.specs.Fitting.{found_from}
+use mathlib.Core.Path.{refl, sym, ◌∙◌}
 use Rattle.evaluator.proofs.Fits.{found-past, found_here, found-later}
 use Rattle.evaluator.proofs.fitting.find.Goals as goal
 

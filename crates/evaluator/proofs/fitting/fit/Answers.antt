@@ -1,9 +1,5 @@
 -- `fitting::fit` meets its contract. The loop's invariant: the pattern fits the value as what is left of the one fits what is left of the other.
-use mathlib.Core.Path.{◌≡◌, refl, sym, ◌∙◌}
-use Prim.Native.Nat.{◌-◌}
-use lib.ListN.{length}
-use borrow.Author.Rules.{rules}
-use Rattle.evaluator.specs.Fitting.{fit_in}
+use mathlib.Core.Path.{refl, sym, ◌∙◌}
 use Rattle.evaluator.proofs.Fits.{fit-in-past, fit-in-word, fit-in-stop, fit-in-succ}
 use Rattle.evaluator.proofs.fitting.fit.Goals as goal
 

@@ -1,10 +1,8 @@
 -- `fitting::fit` meets its contract. The loop's invariant: the pattern fits the value as what is left of the one fits what is left of the other.
-use mathlib.Core.Path.{◌≡◌, refl, sym, ◌∙◌}
+use mathlib.Core.Path.{◌≡◌}
 use Prim.Native.Nat.{◌-◌}
 use lib.ListN.{length}
-use borrow.Author.Rules.{rules}
 use Rattle.evaluator.specs.Fitting.{fit_in}
-use Rattle.evaluator.proofs.Fits.{fit-in-past, fit-in-word, fit-in-stop, fit-in-succ}
 use Rattle.evaluator.proofs.fitting.fit.Given as goal
 
 abbrev pub invariant-loop-a : goal.invariant-loop-a

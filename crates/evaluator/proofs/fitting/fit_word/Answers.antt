@@ -1,6 +1,5 @@
 -- `fitting::fit_word` meets its contract.
 use mathlib.Core.Path.{sym, ◌∙◌}
-use borrow.Author.Rules.{rules}
 use Rattle.evaluator.proofs.Fits.{word-var, word_none, word-tall, word-other, word-base}
 use Rattle.evaluator.proofs.fitting.fit_word.Goals as goal
 

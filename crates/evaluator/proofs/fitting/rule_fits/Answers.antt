@@ -1,6 +1,5 @@
 -- `fitting::rule_fits` meets its contract.
 use Rattle.evaluator.proofs.Fits.{rule_fits, rule-stop}
-use borrow.Author.Rules.{rules}
 use Rattle.evaluator.proofs.fitting.rule_fits.Goals as goal
 
 pub returns-then-f : goal.returns-then-f

@@ -1,7 +1,6 @@
 -- `fitting::rules_of` meets its contract: the part that the index of its list gives for the last auxiliary.
 use native.Mathlib.Omega.{arith}
 use Rattle.evaluator.proofs.Laws.{rules-standing, rules-own, rules-none}
-use borrow.Author.Rules.{rules}
 use Rattle.evaluator.proofs.fitting.rules_of.Goals as goal
 
 pub returns-then-k-ge48 : goal.returns-then-k-ge48

@@ -1,6 +1,5 @@
 -- `places::place_past` meets its contract.
 use Rattle.evaluator.proofs.Laws.{place_end, place_short}
-use borrow.Author.Rules.{rules}
 use Rattle.evaluator.proofs.places.place_past.Goals as goal
 
 pub returns-in-End : goal.returns-in-End

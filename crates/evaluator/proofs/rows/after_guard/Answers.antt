@@ -4,7 +4,6 @@ use Rattle.evaluator.specs.declared.rows.Turn.TheVariants.{Ends}
 use borrow.Author.Tests.{eq-eqb, ne_eqb}
 use Rattle.evaluator.specs.Rows.{after_guard}
 use native.Mathlib.Omega.{arith}
-use borrow.Author.Rules.{rules}
 use Rattle.evaluator.proofs.rows.after_guard.Goals as goal
 
 pub overflow_add-v : goal.overflow_add-v

@@ -3,7 +3,6 @@ use mathlib.Core.Path.{ap}
 use Rattle.evaluator.specs.declared.rows.Turn.TheVariants.{Ends}
 use Rattle.evaluator.specs.Rows.{after_succ}
 use native.Mathlib.Omega.{arith}
-use borrow.Author.Rules.{rules}
 use Rattle.evaluator.proofs.rows.after_succ.Goals as goal
 
 pub overflow_add-result : goal.overflow_add-result

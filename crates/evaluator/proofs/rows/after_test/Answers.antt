@@ -3,7 +3,6 @@ use mathlib.Core.Path.{ap}
 use Rattle.evaluator.specs.declared.rows.Turn.TheVariants.{Ends}
 use borrow.Author.Tests.{eq-eqb, ne_eqb}
 use Rattle.evaluator.specs.Rows.{after_test}
-use borrow.Author.Rules.{rules}
 use Rattle.evaluator.proofs.rows.after_test.Goals as goal
 
 pub returns-then-v-eq3 : goal.returns-then-v-eq3

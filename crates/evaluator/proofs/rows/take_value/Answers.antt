@@ -4,7 +4,6 @@ use Rattle.evaluator.specs.declared.rows.Took.TheVariants.{Ends}
 use borrow.Author.Tests.{le-leb, lt-leb}
 use Rattle.evaluator.specs.Rows.{after_arg, took_of}
 use native.Mathlib.Omega.{arith}
-use borrow.Author.Rules.{rules}
 use Rattle.evaluator.proofs.rows.take_value.Goals as goal
 
 pub overflow_add-c : goal.overflow_add-c
