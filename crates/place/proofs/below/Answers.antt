@@ -4,7 +4,6 @@ use Prim.Native.Nat.{ℕ, ◌+◌, ◌-◌, ◌<◌, ◌≤◌}
 use lib.ListN.{drop}
 use Rattle.words.specs.Terms.{arity_of, past}
 use Rattle.place.proofs.Path.{below_none, below-few, below-past}
-use borrow.Author.Rules.{rules}
 use Rattle.place.proofs.below.Goals as goal
 
 pub returns-then-i-lt1 : goal.returns-then-i-lt1

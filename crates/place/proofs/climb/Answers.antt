@@ -1,11 +1,8 @@
 -- `place::climb` meets its contract. The loop's invariant: of what is at or below the place number n, only the place itself is left.
-use mathlib.Core.Path.{◌≡◌, sym, ◌∙◌}
-use Prim.Native.Nat.{◌-◌, ◌≤◌}
+use mathlib.Core.Path.{sym, ◌∙◌}
 use native.Mathlib.Omega.{arith}
 use borrow.Author.Rules.{rules}
-use lib.ListN.{get_or}
 use Rattle.rules.specs.Finding.{fitting_of}
-use Rattle.place.specs.Path.{here_in, site_at}
 use Rattle.place.proofs.Noted.{number-within, climb-found, climb-ended, climb-on}
 use Rattle.place.proofs.climb.Goals as goal
 
@@ -24,7 +21,7 @@ bounds-path-n c =
 
 pub returns-then-is_at : goal.returns-then-is_at
 returns-then-is_at c =
-        let a = c.args in let both = climb-found a.arities.now (fitting_of a.arities.now a.standing.now a.own.now a.standing_index.now a.own_index.now) a.term.now a.path.now a.deepest c.requires.on_path c.loop-site.n c.loop-site.invariant.0 c.loop-site.invariant.1 c.here-site.result c.here-site.ensures (sym c.is_at.ensures ∙ c.if-is_at.true) in
+    let a = c.args in let both = climb-found a.arities.now (fitting_of a.arities.now a.standing.now a.own.now a.standing_index.now a.own_index.now) a.term.now a.path.now a.deepest c.requires.on_path c.loop-site.n c.loop-site.invariant.0 c.loop-site.invariant.1 c.here-site.result c.here-site.ensures (sym c.is_at.ensures ∙ c.if-is_at.true) in
     record {
       site_value = both.0;
       noted = both.1;
@@ -32,7 +29,7 @@ returns-then-is_at c =
 
 pub returns-then-n-eq0 : goal.returns-then-n-eq0
 returns-then-n-eq0 c =
-        let a = c.args in let both = climb-ended a.arities.now (fitting_of a.arities.now a.standing.now a.own.now a.standing_index.now a.own_index.now) a.term.now a.path.now a.deepest c.requires.on_path c.loop-site.n c.loop-site.invariant.0 c.loop-site.invariant.1 c.here-site.result c.here-site.ensures (sym c.is_at.ensures ∙ c.if-is_at.false) c.if-n-eq0.true in
+    let a = c.args in let both = climb-ended a.arities.now (fitting_of a.arities.now a.standing.now a.own.now a.standing_index.now a.own_index.now) a.term.now a.path.now a.deepest c.requires.on_path c.loop-site.n c.loop-site.invariant.0 c.loop-site.invariant.1 c.here-site.result c.here-site.ensures (sym c.is_at.ensures ∙ c.if-is_at.false) c.if-n-eq0.true in
     record {
       site_value = both.0;
       noted = both.1;

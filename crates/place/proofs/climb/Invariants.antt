@@ -1,12 +1,9 @@
 -- `place::climb` meets its contract. The loop's invariant: of what is at or below the place number n, only the place itself is left.
-use mathlib.Core.Path.{◌≡◌, sym, ◌∙◌}
-use Prim.Native.Nat.{◌-◌, ◌≤◌}
-use native.Mathlib.Omega.{arith}
-use borrow.Author.Rules.{rules}
+use mathlib.Core.Path.{◌≡◌}
+use Prim.Native.Nat.{◌≤◌}
 use lib.ListN.{get_or}
 use Rattle.rules.specs.Finding.{fitting_of}
 use Rattle.place.specs.Path.{here_in, site_at}
-use Rattle.place.proofs.Noted.{number-within, climb-found, climb-ended, climb-on}
 use Rattle.place.proofs.climb.Given as goal
 
 abbrev pub invariant-loop-site : goal.invariant-loop-site

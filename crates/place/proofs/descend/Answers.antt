@@ -1,12 +1,11 @@
 -- `place::descend` meets its contract. The loop's invariant: the path is noted up to number n, which is the place `at`.
 use mathlib.Core.Path.{◌≡◌, refl, sym, ap, subst, ◌∙◌}
-use Prim.Native.Nat.{ℕ, ◌+◌, ◌-◌, ◌≤◌, ◌<◌}
+use Prim.Native.Nat.{ℕ, ◌+◌, ◌≤◌, ◌<◌}
 use native.Mathlib.Omega.{arith}
 use borrow.Author.Rules.{rules}
-use lib.ListN.{length, get_or, length-set}
+use lib.ListN.{length, length-set}
 use Rattle.rules.specs.Finding.{fitting_of}
 use Rattle.place.specs.Path.{below_at, here_in, site_at}
-use Rattle.place.specs.Noted.{OnPath}
 use Rattle.place.proofs.Noted.{number-within, path-down, path-noted, site-deepest}
 use Rattle.place.proofs.Quiet.{value-quiet}
 use Rattle.place.proofs.descend.Goals as goal
@@ -29,7 +28,7 @@ shape_of-path-then-stops c = c.loop-at.invariant.2
 -- a value stands there
 pub returns-then-stops : goal.returns-then-stops
 returns-then-stops c =
-        let a = c.args in
+    let a = c.args in
     let find = fitting_of a.arities.now a.standing.now a.own.now a.standing_index.now a.own_index.now in
     let value = c.stops.ensures.0 c.if-stops.true in
     let quiet = value-quiet a.arities.now a.standing.now a.own.now a.standing_index.now a.own_index.now (c.requires.usual value.0) a.term.now c.loop-at.at value.1.1 in
@@ -44,7 +43,7 @@ shape_of-path-in-Short c = c.loop-at.invariant.2
 -- the path ends there
 pub returns-in-Short : goal.returns-in-Short
 returns-in-Short c =
-        let a = c.args in
+    let a = c.args in
     let find = fitting_of a.arities.now a.standing.now a.own.now a.standing_index.now a.own_index.now in
     let b = sym c.below.ensures ∙ c.in-Short.is in
     record {
@@ -55,27 +54,26 @@ returns-in-Short c =
 pub overflow_add-n : goal.overflow_add-n
 overflow_add-n c =
     let down : let p = c.in-End.p in (c.loop-at.n + 1 ≤ p) × ((c.loop-at.at < p) × (p ≤ length c.args.term.now)) =
-        path-down _ _ _ _ c.loop-at.invariant.0 _ _ c.loop-at.invariant.1 c.loop-at-test.true (sym c.below.ensures ∙ c.in-End.is) in
-     let d = down in search rules
+    path-down _ _ _ _ c.loop-at.invariant.0 _ _ c.loop-at.invariant.1 c.loop-at-test.true (sym c.below.ensures ∙ c.in-End.is) in
+    let d = down in search rules
 
 pub offset_bounds-path-n-in-End : goal.offset_bounds-path-n-in-End
 offset_bounds-path-n-in-End c =
     let down : let p = c.in-End.p in (c.loop-at.n + 1 ≤ p) × ((c.loop-at.at < p) × (p ≤ length c.args.term.now)) =
-        path-down _ _ _ _ c.loop-at.invariant.0 _ _ c.loop-at.invariant.1 c.loop-at-test.true (sym c.below.ensures ∙ c.in-End.is) in
-     let d = down in search rules
+    path-down _ _ _ _ c.loop-at.invariant.0 _ _ c.loop-at.invariant.1 c.loop-at-test.true (sym c.below.ensures ∙ c.in-End.is) in
+    let d = down in search rules
 
 pub bounds-path-n-in-End : goal.bounds-path-n-in-End
 bounds-path-n-in-End c =
     let down : let p = c.in-End.p in (c.loop-at.n + 1 ≤ p) × ((c.loop-at.at < p) × (p ≤ length c.args.term.now)) =
-        path-down _ _ _ _ c.loop-at.invariant.0 _ _ c.loop-at.invariant.1 c.loop-at-test.true (sym c.below.ensures ∙ c.in-End.is) in
-    
+    path-down _ _ _ _ c.loop-at.invariant.0 _ _ c.loop-at.invariant.1 c.loop-at-test.true (sym c.below.ensures ∙ c.in-End.is) in
     omega (arith, down, c.requires.term_in_bounds, c.loop-at.invariant.2)
 
 pub loop-at-smaller : goal.loop-at-smaller
 loop-at-smaller c =
     let down : let p = c.in-End.p in (c.loop-at.n + 1 ≤ p) × ((c.loop-at.at < p) × (p ≤ length c.args.term.now)) =
-        path-down _ _ _ _ c.loop-at.invariant.0 _ _ c.loop-at.invariant.1 c.loop-at-test.true (sym c.below.ensures ∙ c.in-End.is) in
-     omega (arith, down)
+    path-down _ _ _ _ c.loop-at.invariant.0 _ _ c.loop-at.invariant.1 c.loop-at-test.true (sym c.below.ensures ∙ c.in-End.is) in
+    omega (arith, down)
 
 pub loop-at-preserved : goal.loop-at-preserved
 loop-at-preserved c =
@@ -90,7 +88,7 @@ shape_of-path c = c.loop-at.invariant.2
 -- it leads past the words
 pub returns : goal.returns
 returns c =
-        let a = c.args in
+    let a = c.args in
     let find = fitting_of a.arities.now a.standing.now a.own.now a.standing_index.now a.own_index.now in
     record {
       on_path_2 = c.loop-at.invariant.0;

@@ -1,14 +1,8 @@
 -- `place::descend` meets its contract. The loop's invariant: the path is noted up to number n, which is the place `at`.
-use mathlib.Core.Path.{◌≡◌, refl, sym, ap, subst, ◌∙◌}
-use Prim.Native.Nat.{ℕ, ◌+◌, ◌-◌, ◌≤◌, ◌<◌}
-use native.Mathlib.Omega.{arith}
-use borrow.Author.Rules.{rules}
-use lib.ListN.{length, get_or, length-set}
-use Rattle.rules.specs.Finding.{fitting_of}
-use Rattle.place.specs.Path.{below_at, here_in, site_at}
+use mathlib.Core.Path.{◌≡◌}
+use Prim.Native.Nat.{◌-◌}
+use lib.ListN.{length, get_or}
 use Rattle.place.specs.Noted.{OnPath}
-use Rattle.place.proofs.Noted.{number-within, path-down, path-noted, site-deepest}
-use Rattle.place.proofs.Quiet.{value-quiet}
 use Rattle.place.proofs.descend.Given as goal
 
 abbrev pub invariant-loop-at : goal.invariant-loop-at

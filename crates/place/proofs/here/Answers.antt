@@ -4,7 +4,6 @@ use Rattle.rules.specs.Finding.{fitting_of}
 use Rattle.words.proofs.Parts.{tail-part}
 use Rattle.place.proofs.Path.{here-fits, here-not}
 use Rattle.place.proofs.Noted.{here-inside, here-outside}
-use borrow.Author.Rules.{rules}
 use Rattle.place.proofs.here.Goals as goal
 
 pub returns-then-term-at : goal.returns-then-term-at

@@ -3,8 +3,6 @@ use mathlib.Core.Path.{sym, subst, ◌∙◌}
 use mathlib.Core.Bool.{false≢true}
 use Prim.Native.Nat.{ℕ}
 use native.Mathlib.Omega.{arith}
-use borrow.Author.Rules.{rules}
-use borrow.Author.Tests.{not-true, not-false}
 use lib.ListN.{get_or}
 use Rattle.rules.specs.Usual.{Base}
 use Rattle.place.proofs.stops.Goals as goal
@@ -24,7 +22,7 @@ returns c =
     let a = c.args in (
       λ e. (
         c.if-not-usual.false,
-        (c.if-not-fresh.false, record { c = omega (arith, is, c.if-term-e.false); base = subst (λ (q : ℕ). Base (get_or a.term.now q 0)) is (c.is_base.ensures.0 e) }),
+        (c.if-not-fresh.false, record { inside = omega (arith, is, c.if-term-e.false); base = subst (λ (q : ℕ). Base (get_or a.term.now q 0)) is (c.is_base.ensures.0 e) }),
       ),
       λ h. c.is_base.ensures.1 (subst (λ (q : ℕ). Base (get_or a.term.now q 0)) (sym is) h.1.1.base),
     )
