@@ -4,11 +4,13 @@
 mod cases;
 mod output;
 
-ghost use Rattle.std.specs.Prelude.{◌≤◌, length};
+ghost use Rattle.std.specs.Prelude.{◌≡◌, ◌≤◌, length, IfOk};
 
 use bridge::report::Report;
 use cases::Case;
 use input::Input;
+use std::io;
+use std::io::Stdin;
 
 // The smaller of two numbers.
 fn least(a: usize, b: usize) -> usize
@@ -59,23 +61,25 @@ fn kept(words: &[u16], room: usize) -> usize
 
 // What the lent slices hold, and the line's end.
 fn put_slices(
+    rt: &impl Print,
     out: &mut [u8],
     at: usize,
     room: usize,
     own: &[u16],
     first: &[u16],
     second: &[u16],
-) -> usize
+) -> io::Result<usize>
     requires { (at ≤ length out.old) × (128 ≤ length out.old) }
-    ensures { result ≤ length out.new }
+    ensures ends { IfOk result (λ n. n ≤ length out.new) }
+    ensures keeps_length { length out.new ≡ length out.old }
 {
     let o = stored(own);
     let f = kept(first, room);
     let s = kept(second, room);
-    let listed = output::put_words(out, at, &own[0..o]);
-    let held = output::put_words(out, listed, &first[0..f]);
-    let spare = output::put_words(out, held, &second[0..s]);
-    output::put_piece(out, spare, b"\n")
+    let listed = output::put_words(rt, out, at, &own[0..o])?;
+    let held = output::put_words(rt, out, listed, &first[0..f])?;
+    let spare = output::put_words(rt, out, held, &second[0..s])?;
+    output::put_piece(rt, out, spare, b"\n")
 }
 
 // The rewriter on a case. A slice that is longer than those here would answer the same.
@@ -104,6 +108,7 @@ fn rewrite(
 
 // The answer to a case. What refuses the evaluator comes before what refuses the rewriter alone.
 fn put_answer(
+    rt: &impl Print,
     out: &mut [u8],
     at: usize,
     case: Case,
@@ -112,24 +117,26 @@ fn put_answer(
     own: &mut [u16],
     first: &mut [u16],
     second: &mut [u16],
-) -> usize
+) -> io::Result<usize>
     requires { (at ≤ length out.old) × (128 ≤ length out.old) }
-    ensures { result ≤ length out.new }
+    ensures ends { IfOk result (λ n. n ≤ length out.new) }
+    ensures keeps_length { length out.new ≡ length out.old }
 {
     let evaluated = bridge::evaluate(program, question, case.steps, case.levels);
     if evaluated.number != 0 {
-        return output::put_refused(out, at, evaluated);
+        return output::put_refused(rt, out, at, evaluated);
     }
     let rewritten = rewrite(case, program, question, own, first, second);
     if rewritten.number != 0 {
-        return output::put_refused(out, at, rewritten);
+        return output::put_refused(rt, out, at, rewritten);
     }
-    let ended = output::put_engines(out, at, evaluated, rewritten);
-    put_slices(out, ended, case.room as usize, own, first, second)
+    let ended = output::put_engines(rt, out, at, evaluated, rewritten)?;
+    put_slices(rt, out, ended, case.room as usize, own, first, second)
 }
 
 // The answer to a line.
 fn put_line(
+    rt: &impl Print,
     out: &mut [u8],
     at: usize,
     line: &[u8],
@@ -138,17 +145,19 @@ fn put_line(
     own: &mut [u16],
     first: &mut [u16],
     second: &mut [u16],
-) -> usize
+) -> io::Result<usize>
     requires { (at ≤ length out.old) × (128 ≤ length out.old) }
-    ensures { result ≤ length out.new }
+    ensures ends { IfOk result (λ n. n ≤ length out.new) }
+    ensures keeps_length { length out.new ≡ length out.old }
 {
     let case = cases::read_case(line, program, question);
     if !case.good {
-        return output::put_piece(out, at, b"bad line\n");
+        return output::put_piece(rt, out, at, b"bad line\n");
     }
     let p = case.program;
     let q = case.question;
     put_answer(
+        rt,
         out,
         at,
         case,
@@ -162,6 +171,7 @@ fn put_line(
 
 // The answer to the line that was read, unless it is over its buffer.
 fn put_held(
+    rt: &impl Print,
     out: &mut [u8],
     at: usize,
     line: &[u8],
@@ -171,19 +181,32 @@ fn put_held(
     own: &mut [u16],
     first: &mut [u16],
     second: &mut [u16],
-) -> usize
+) -> io::Result<usize>
     requires { (at ≤ length out.old) × (128 ≤ length out.old) × (held.len ≤ length line.now) }
-    ensures { result ≤ length out.new }
+    ensures ends { IfOk result (λ n. n ≤ length out.new) }
+    ensures keeps_length { length out.new ≡ length out.old }
 {
     let n = held.len;
     if held.long {
-        return output::put_piece(out, at, b"too long\n");
+        return output::put_piece(rt, out, at, b"too long\n");
     }
-    put_line(out, at, &line[0..n], program, question, own, first, second)
+    put_line(
+        rt,
+        out,
+        at,
+        &line[0..n],
+        program,
+        question,
+        own,
+        first,
+        second,
+    )
 }
 
 // The answers to all lines. The turns are counted down, as in `next_line`.
 fn answer_all(
+    rt: &impl Print,
+    stdin: Stdin,
     chunk: &mut [u8],
     line: &mut [u8],
     out: &mut [u8],
@@ -192,21 +215,21 @@ fn answer_all(
     own: &mut [u16],
     first: &mut [u16],
     second: &mut [u16],
-)
+) -> io::Result<()>
     requires { 128 ≤ length out.old }
 {
-    let mut i = input::next_line(chunk, line, input::start());
+    let mut i = input::next_line(stdin, chunk, line, input::start())?;
     let mut at = 0;
     let mut turns = u64::MAX;
     while turns > 0 && !i.over {
-        at = put_held(out, at, line, i, program, question, own, first, second);
-        i = input::next_line(chunk, line, i);
+        at = put_held(rt, out, at, line, i, program, question, own, first, second)?;
+        i = input::next_line(stdin, chunk, line, i)?;
         turns -= 1;
     }
-    output::flush(out, at);
+    output::flush(rt, out, at)
 }
 
-fn main() {
+fn main(rt: HostRuntime) -> io::Result<()> {
     let mut chunk = [0u8; 65536];
     let mut line = [0u8; 60000];
     let mut out = [0u8; 65536];
@@ -216,6 +239,8 @@ fn main() {
     let mut first = [0u16; 4096];
     let mut second = [0u16; 4096];
     answer_all(
+        &rt,
+        rt.stdin(),
         &mut chunk,
         &mut line,
         &mut out,
@@ -224,5 +249,5 @@ fn main() {
         &mut own,
         &mut first,
         &mut second,
-    );
+    )
 }

@@ -1,8 +1,12 @@
-// The lines of standard input, one at a time, through a chunk buffer and a line buffer that the caller lends.
+// Standard input: its lines, one at a time, through a chunk buffer and a line buffer that the caller lends, or its first bytes, into one
+// buffer. A read that fails is an error.
 #![tactic(auto)]
 
-ghost use Rattle.std.specs.Prelude.{◌≡◌, ◌+◌, ◌≤◌, length};
+ghost use Rattle.std.specs.Prelude.{◌≡◌, ◌+◌, ◌≤◌, length, IfOk};
 ghost use Rattle.input.specs.Places.{Within};
+
+use std::io;
+use std::io::{Read, Stdin};
 
 // Where the reading stands. The bytes of the chunk from `at` up to `end` are still to come. The line has `len` bytes in its buffer,
 // and `long` says that it did not fit there. While `open`, its end has not been met. `over`: there is no line any more.
@@ -32,18 +36,19 @@ pub fn start() -> Input
 
 // The next line, or that there is none. One without a newline at the input's end is a line too, and of one that is longer than its
 // buffer the rest is passed over. A proved loop has to end, and nothing says that a line does: it counts its turns down from a number
-// that no run uses up.
-pub fn next_line(chunk: &mut [u8], line: &mut [u8], input: Input) -> Input
+// that no run uses up. After an error too both buffers have the lengths that they had.
+pub fn next_line(stdin: Stdin, chunk: &mut [u8], line: &mut [u8], input: Input) -> io::Result<Input>
     requires { Within input (length chunk.old) (length line.old) }
-    ensures { Within result (length chunk.new) (length line.new) }
+    ensures places { IfOk result (λ i. Within i (length chunk.new) (length line.new)) }
+    ensures lengths { (length chunk.new ≡ length chunk.old) × (length line.new ≡ length line.old) }
 {
     let mut i = opened(input);
     let mut turns = u64::MAX;
     while turns > 0 && i.open {
-        i = line_part(chunk, line, i);
+        i = line_part(stdin, chunk, line, i)?;
         turns -= 1;
     }
-    i
+    Ok(i)
 }
 
 // A line of which nothing is read yet.
@@ -61,33 +66,33 @@ fn opened(input: Input) -> Input
 }
 
 // One part more of the line, from a chunk with bytes in it.
-fn line_part(chunk: &mut [u8], line: &mut [u8], input: Input) -> Input
+fn line_part(stdin: Stdin, chunk: &mut [u8], line: &mut [u8], input: Input) -> io::Result<Input>
     requires { Within input (length chunk.old) (length line.old) }
-    ensures { Within result (length chunk.new) (length line.new) }
+    ensures { IfOk result (λ i. Within i (length chunk.new) (length line.new)) }
 {
-    let i = filled(chunk, input);
+    let i = filled(stdin, chunk, input)?;
     let at = i.at;
     let end = i.end;
     if at == end {
-        return closed(i);
+        return Ok(closed(i));
     }
-    take_part(&chunk[at..end], line, i)
+    Ok(take_part(&chunk[at..end], line, i))
 }
 
 // A chunk of which all is read is read anew. Where that gives nothing, the input has ended.
-fn filled(chunk: &mut [u8], input: Input) -> Input
+fn filled(stdin: Stdin, chunk: &mut [u8], input: Input) -> io::Result<Input>
     requires { (input.at ≤ input.end) × (input.end ≤ length chunk.old) }
-    ensures { (result.at ≤ result.end) × (result.end ≤ length chunk.new) × (result.len ≡ input.len) }
+    ensures { IfOk result (λ i. (i.at ≤ i.end) × (i.end ≤ length chunk.new) × (i.len ≡ input.len)) }
 {
     if input.at < input.end {
-        return input;
+        return Ok(input);
     }
-    let got = libc::read(0, chunk);
-    let n = io::count(got, chunk);
+    let mut from = stdin;
+    let n = from.read(chunk)?;
     let mut i = input;
     i.at = 0;
     i.end = n;
-    i
+    Ok(i)
 }
 
 // The input has ended: what is held of a line is a line.
@@ -134,4 +139,21 @@ fn hold(line: &mut [u8], input: Input, part: &[u8]) -> Input
     i.long = false;
     i.len = at + n;
     i
+}
+
+// Reads until the buffer is full or the input ends: how many bytes are read, which stand at the buffer's start.
+pub fn read_full(stdin: Stdin, buf: &mut [u8]) -> io::Result<usize>
+    ensures within { IfOk result (λ n. n ≤ length buf.new) }
+    ensures length { length buf.new ≡ length buf.old }
+{
+    let mut from = stdin;
+    let mut done = 0;
+    while done < buf.len() {
+        let n = from.read(&mut buf[done..])?;
+        if n == 0 {
+            return Ok(done);
+        }
+        done += n;
+    }
+    Ok(done)
 }

@@ -5,32 +5,29 @@ ghost use Rattle.own_lists.specs.Shown.{unchanged_in, mixed_of, sum_from};
 
 use super::lists::Answer;
 use numbers::size_of_word;
+use std::io;
 
-pub(crate) fn show_number(n: usize) {
-    io::print_decimal(1, n as u64);
+pub(crate) fn show_number(rt: &impl Print, n: usize) -> io::Result<()> {
+    rt.print(n)
 }
 
-pub(crate) fn show_answer(answer: Answer) {
+pub(crate) fn show_answer(rt: &impl Print, answer: Answer) -> io::Result<()> {
     match answer {
-        Answer::Refused => {
-            io::write_all(1, b"refused");
-        }
-        Answer::Short => {
-            io::write_all(1, b"short");
-        }
+        Answer::Refused => rt.write_all(b"refused"),
+        Answer::Short => rt.write_all(b"short"),
         Answer::Count(n) => {
-            io::write_all(1, b"count ");
-            show_number(n);
+            rt.write_all(b"count ")?;
+            show_number(rt, n)
         }
     }
 }
 
 // Whether this is the last word of a rule: so many are left of it.
-fn behind(left: usize) {
+fn behind(rt: &impl Print, left: usize) -> io::Result<()> {
     if left == 1 {
-        io::write_all(1, b"\n");
+        rt.write_all(b"\n")
     } else {
-        io::write_all(1, b" ");
+        rt.write_all(b" ")
     }
 }
 
@@ -57,26 +54,28 @@ fn left_at(own: &[u16], i: usize, left: usize) -> usize
 }
 
 // A rule to a line.
-pub(crate) fn show_rules(own: &[u16]) {
+pub(crate) fn show_rules(rt: &impl Print, own: &[u16]) -> io::Result<()> {
     let mut i = 0;
     let mut left = 0;
     while i < own.len() {
         let here = left_at(own, i, left);
-        show_number(size_of_word(own[i]));
-        behind(here);
+        show_number(rt, size_of_word(own[i]))?;
+        behind(rt, here)?;
         left = here - 1;
         i += 1;
     }
+    Ok(())
 }
 
 // Words to a line.
-pub(crate) fn show_words(ws: &[u16]) {
+pub(crate) fn show_words(rt: &impl Print, ws: &[u16]) -> io::Result<()> {
     let mut i = 0;
     while i < ws.len() {
-        show_number(size_of_word(ws[i]));
+        show_number(rt, size_of_word(ws[i]))?;
         i += 1;
-        behind(ws.len() - i + 1);
+        behind(rt, ws.len() - i + 1)?;
     }
+    Ok(())
 }
 
 // How many words are as they were before.

@@ -6,78 +6,59 @@
 ghost use Rattle.std.specs.Prelude.{◌≤◌};
 
 use checker::builtins::start_arities;
-use libc::STDOUT_FILENO;
 use rewriter::ending::{Base, Said};
 use rewriter::{Answer, rewrite, rewrite_each};
 use rules::index::index_of;
 use rules::table::standing_list;
+use std::io;
 
-fn print_base(b: Base) {
+fn print_base(rt: &impl Print, b: Base) -> io::Result<()> {
     match b {
-        Base::Zero => {
-            io::write_all(STDOUT_FILENO, b" zero ");
-        }
-        Base::True => {
-            io::write_all(STDOUT_FILENO, b" true ");
-        }
-        Base::False => {
-            io::write_all(STDOUT_FILENO, b" false ");
-        }
+        Base::Zero => rt.write_all(b" zero "),
+        Base::True => rt.write_all(b" true "),
+        Base::False => rt.write_all(b" false "),
     }
 }
 
-fn print_said(said: Said) {
+fn print_said(rt: &impl Print, said: Said) -> io::Result<()> {
     match said {
         Said::Value(k, b) => {
-            io::write_all(STDOUT_FILENO, b"value ");
-            io::print_decimal(STDOUT_FILENO, k as u64);
-            print_base(b);
+            print!(rt; "value {k}")?;
+            print_base(rt, b)
         }
-        Said::Raised(e) => {
-            io::write_all(STDOUT_FILENO, b"exception ");
-            io::print_decimal(STDOUT_FILENO, e as u64);
-            io::write_all(STDOUT_FILENO, b" - ");
-        }
-        Said::Stuck(s) => {
-            io::write_all(STDOUT_FILENO, b"stuck ");
-            io::print_decimal(STDOUT_FILENO, s as u64);
-            io::write_all(STDOUT_FILENO, b" - ");
-        }
-        Said::Out => {
-            io::write_all(STDOUT_FILENO, b"out - - ");
-        }
-        Said::Big => {
-            io::write_all(STDOUT_FILENO, b"big - - ");
-        }
+        Said::Raised(e) => print!(rt; "exception {e} - "),
+        Said::Stuck(s) => print!(rt; "stuck {s} - "),
+        Said::Out => rt.write_all(b"out - - "),
+        Said::Big => rt.write_all(b"big - - "),
     }
 }
 
-fn print_answer(a: Answer) {
+fn print_answer(rt: &impl Print, a: Answer) -> io::Result<()> {
     let said = a.said;
     let steps = a.steps;
-    print_said(said);
-    io::print_decimal(STDOUT_FILENO, steps as u64);
-    io::write_all(STDOUT_FILENO, b"\n");
+    print_said(rt, said)?;
+    rt.println(steps)
 }
 
-fn print_word(i: usize, w: u16) {
+fn print_word(rt: &impl Print, i: usize, w: u16) -> io::Result<()> {
     if 0 < i {
-        io::write_all(STDOUT_FILENO, b" ");
+        rt.write_all(b" ")?;
     }
-    io::print_decimal(STDOUT_FILENO, w as u64);
+    rt.print(w)
 }
 
 // The words up to the first 0, which is no symbol.
-fn print_words(words: &[u16]) {
+fn print_words(rt: &impl Print, words: &[u16]) -> io::Result<()> {
     let mut i = 0;
     while i < words.len() {
         let w = words[i];
         if w == 0 {
-            return;
+            return Ok(());
         }
-        print_word(i, w);
+        print_word(rt, i, w)?;
         i += 1;
     }
+    Ok(())
 }
 
 fn base_number(b: Base) -> usize {
@@ -135,14 +116,16 @@ fn same_words(one: &[u16], other: &[u16]) -> bool {
     true
 }
 
-fn say_differs(same: bool) {
+fn say_differs(rt: &impl Print, same: bool) -> io::Result<()> {
     if !same {
-        io::write_all(STDOUT_FILENO, b"differs\n");
+        rt.write_all(b"differs\n")?;
     }
+    Ok(())
 }
 
 // Rewrites within so many steps in each of the two ways, prints the term that the one leaves, and answers how the other ends.
 fn after<'a>(
+    rt: &impl Print,
     standing: &'a [u16],
     own: &'a [u16],
     standing_index: &[usize],
@@ -151,7 +134,7 @@ fn after<'a>(
     question: &[u16],
     steps: usize,
     room: usize,
-) -> Answer
+) -> io::Result<Answer>
     requires { (steps ≤ 1000000) × (room ≤ 512) }
 {
     let mut first = [7u16; 513];
@@ -182,16 +165,17 @@ fn after<'a>(
         steps,
         room,
     );
-    print_words(&first);
-    io::write_all(STDOUT_FILENO, b"\n");
-    say_differs(same_answer(a, b));
-    say_differs(same_words(&first, &first_each));
-    say_differs(same_words(&second, &second_each));
-    b
+    print_words(rt, &first)?;
+    rt.write_all(b"\n")?;
+    say_differs(rt, same_answer(a, b))?;
+    say_differs(rt, same_words(&first, &first_each))?;
+    say_differs(rt, same_words(&second, &second_each))?;
+    Ok(b)
 }
 
 // The same for every number of steps up to the most, and then how the run ends.
 fn trace<'a>(
+    rt: &impl Print,
     standing: &'a [u16],
     standing_index: &[usize],
     arities: &[u8],
@@ -199,13 +183,14 @@ fn trace<'a>(
     question: &[u16],
     most: usize,
     room: usize,
-)
+) -> io::Result<()>
     requires { (most ≤ 1000000) × (room ≤ 512) }
 {
     let own_index = index_of(own);
     let mut n = 0;
     while n < most {
         after(
+            rt,
             standing,
             own,
             standing_index,
@@ -214,10 +199,11 @@ fn trace<'a>(
             question,
             n,
             room,
-        );
+        )?;
         n += 1;
     }
     let a = after(
+        rt,
         standing,
         own,
         standing_index,
@@ -226,12 +212,12 @@ fn trace<'a>(
         question,
         most,
         room,
-    );
-    print_answer(a);
+    )?;
+    print_answer(rt, a)
 }
 
 // Figure 2's program and figure 4's terms, with fire(A) where figure 4's ninth arrow leaves raise(A).
-fn figure_two(standing: &[u16], standing_index: &[usize]) {
+fn figure_two(rt: &impl Print, standing: &[u16], standing_index: &[usize]) -> io::Result<()> {
     let mut arities = start_arities();
     arities[16] = 1;
     let own = [
@@ -242,11 +228,20 @@ fn figure_two(standing: &[u16], standing_index: &[usize]) {
         32, 2, 1,
     ];
     let question = [384u16, 1];
-    trace(standing, standing_index, &arities, &own, &question, 13, 512);
+    trace(
+        rt,
+        standing,
+        standing_index,
+        &arities,
+        &own,
+        &question,
+        13,
+        512,
+    )
 }
 
 // A handler for another exception: select of unequal exceptions.
-fn unequal(standing: &[u16], standing_index: &[usize]) {
+fn unequal(rt: &impl Print, standing: &[u16], standing_index: &[usize]) -> io::Result<()> {
     let mut arities = start_arities();
     arities[16] = 2;
     let own = [
@@ -263,11 +258,20 @@ fn unequal(standing: &[u16], standing_index: &[usize]) {
     let question = [
         384u16, 2, 12, 2, 2, 11, 33, 32, 2, 264, 2, 2, 2, 2, 2, 2, 2, 2, 1, 4, 2, 11, 33,
     ];
-    trace(standing, standing_index, &arities, &own, &question, 11, 512);
+    trace(
+        rt,
+        standing,
+        standing_index,
+        &arities,
+        &own,
+        &question,
+        11,
+        512,
+    )
 }
 
 // Calls of `if` and of built-ins.
-fn choices(standing: &[u16], standing_index: &[usize]) {
+fn choices(rt: &impl Print, standing: &[u16], standing_index: &[usize]) -> io::Result<()> {
     let mut arities = start_arities();
     arities[17] = 1;
     arities[18] = 1;
@@ -279,11 +283,20 @@ fn choices(standing: &[u16], standing_index: &[usize]) {
         2, 4, 394, 1, 2, 2, 2, 1, 2, 2, 400, 64, 401, 64, 2, 5, 401, 64, 7, 9, 64, 402, 64,
     ];
     let question = [392u16, 392, 296, 400, 256, 10, 4, 1, 1, 11, 32, 384];
-    trace(standing, standing_index, &arities, &own, &question, 25, 512);
+    trace(
+        rt,
+        standing,
+        standing_index,
+        &arities,
+        &own,
+        &question,
+        25,
+        512,
+    )
 }
 
 // Figure 6's program, which grows: within 12 words the eleventh step is too big.
-fn too_big(standing: &[u16], standing_index: &[usize]) {
+fn too_big(rt: &impl Print, standing: &[u16], standing_index: &[usize]) -> io::Result<()> {
     let mut arities = start_arities();
     arities[16] = 1;
     let own = [
@@ -294,14 +307,23 @@ fn too_big(standing: &[u16], standing_index: &[usize]) {
         64, 32, 2, 1,
     ];
     let question = [384u16, 1];
-    trace(standing, standing_index, &arities, &own, &question, 12, 12);
+    trace(
+        rt,
+        standing,
+        standing_index,
+        &arities,
+        &own,
+        &question,
+        12,
+        12,
+    )
 }
 
-fn main() {
+fn main(rt: HostRuntime) -> io::Result<()> {
     let standing = standing_list();
     let standing_index = index_of(&standing);
-    figure_two(&standing, &standing_index);
-    unequal(&standing, &standing_index);
-    choices(&standing, &standing_index);
-    too_big(&standing, &standing_index);
+    figure_two(&rt, &standing, &standing_index)?;
+    unequal(&rt, &standing, &standing_index)?;
+    choices(&rt, &standing, &standing_index)?;
+    too_big(&rt, &standing, &standing_index)
 }
