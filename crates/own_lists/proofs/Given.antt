@@ -7,7 +7,7 @@ use Rattle.checker.proofs.Table.{table-agrees, openings-used}
 use Rattle.theory.specs.Bytes.{Declared, read_program, read_question, Agrees}
 use Rattle.checker.specs.declared.Checked.{Checked}
 use Rattle.checker.specs.declared.Verdict.{Verdict}
-use Rattle.checker.specs.Answer.{table, checked_of, declared, verdict_of}
+use Rattle.checker.specs.Answer.{checked_of, declared, verdict_of}
 use Rattle.checker.proofs.Callers.{program_read, rules-most, arities-lent, question_read}
 use Rattle.translator.specs.Accepted.{Accepted, Asked}
 
