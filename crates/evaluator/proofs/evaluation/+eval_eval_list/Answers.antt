@@ -31,7 +31,7 @@ eval-eval_list-l-requires t c =
 pub eval-eval-requires-in-Goes-t : goal.eval-eval-requires-in-Goes-t
 eval-eval-requires-in-Goes-t t c =
     let a = c.args in
-    let f = enter-fine (a.levels - 1) c.in-Goes-start.p c.rules_of-rules.result.now c.arguments_of-n.result c.eval_list-l.result c.eval_list-l.ensures.1 in
+    let f = enter-fine (a.levels - 1) _ c.rules_of-rules.result.now c.arguments_of-n.result c.eval_list-l.result c.eval_list-l.ensures.1 in
     let q = fine-goes (a.levels - 1) f.turn (ap (λ (x : Entered). x.turn) c.enter-body.ensures) c.in-Goes-t.is in
     let g = fine-goes a.levels (go-fine a.levels a.left 1 _ 0 (omega arith)) c.go-start.ensures c.in-Goes-start.is in
     (omega arith, (omega arith, omega (arith, q, g), rw c.enter-body.ensures f.bindings))
@@ -77,7 +77,7 @@ eval-returns-in-Ends-start t c =
 pub eval-returns-in-Ends-t : goal.eval-returns-in-Ends-t
 eval-returns-in-Ends-t t c =
     let a = c.args in
-    let f = enter-fine (a.levels - 1) c.in-Goes-start.p c.rules_of-rules.result.now c.arguments_of-n.result c.eval_list-l.result c.eval_list-l.ensures.1 in
+    let f = enter-fine (a.levels - 1) _ c.rules_of-rules.result.now c.arguments_of-n.result c.eval_list-l.result c.eval_list-l.ensures.1 in
     let g = fine-goes a.levels (go-fine a.levels a.left 1 _ 0 (omega arith)) c.go-start.ensures c.in-Goes-start.is in (
       at-call-ends _ _ _ _ _ _ _ _ _ _ c.if-levels-eq0.false refl (sym c.kind_of-kind.ensures ∙ c.in-Call.is) c.go-start.ensures c.in-Goes-start.is c.arguments_of-n.ensures.value c.eval_list-l.ensures.0 c.rules_of-rules.ensures c.enter-body.ensures c.in-Ends-t.is,
       fine_up (a.levels - 1) a.levels _ _ _ (omega arith) g (fine-ends f.turn (ap (λ (x : Entered). x.turn) c.enter-body.ensures) c.in-Ends-t.is),
@@ -86,7 +86,7 @@ eval-returns-in-Ends-t t c =
 pub eval-returns-in-Goes-t : goal.eval-returns-in-Goes-t
 eval-returns-in-Goes-t t c =
     let a = c.args in
-    let f = enter-fine (a.levels - 1) c.in-Goes-start.p c.rules_of-rules.result.now c.arguments_of-n.result c.eval_list-l.result c.eval_list-l.ensures.1 in
+    let f = enter-fine (a.levels - 1) _ c.rules_of-rules.result.now c.arguments_of-n.result c.eval_list-l.result c.eval_list-l.ensures.1 in
     let q = fine-goes (a.levels - 1) f.turn (ap (λ (x : Entered). x.turn) c.enter-body.ensures) c.in-Goes-t.is in
     let g = fine-goes a.levels (go-fine a.levels a.left 1 _ 0 (omega arith)) c.go-start.ensures c.in-Goes-start.is in (
       at-call-goes _ _ _ _ _ _ _ _ _ _ c.if-levels-eq0.false refl (sym c.kind_of-kind.ensures ∙ c.in-Call.is) c.go-start.ensures c.in-Goes-start.is c.arguments_of-n.ensures.value c.eval_list-l.ensures.0 c.rules_of-rules.ensures c.enter-body.ensures c.in-Goes-t.is c.eval-in-Goes-t.ensures.0,
