@@ -6,7 +6,6 @@ use mathlib.Core.List.{List}
 use lib.Dec.{eqb, leb}
 use borrow.Author.Tests.{ne_eqb}
 use Rattle.theory.specs.Syntax.{zero_b, true_b, false_b, Val, base, up, height, base_of, Term, Program, nothing_bound, pick}
-use Rattle.theory.specs.Builtins.{program}
 use Rattle.theory.specs.Endings.{Ending, value, raised, stuck, too_deep, is, out_of_steps, says}
 use Rattle.theory.specs.Cost.{Cost, eval, evaluator}
 use Rattle.theory.specs.Bytes.{program_of}

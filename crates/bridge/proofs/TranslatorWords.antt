@@ -15,7 +15,7 @@ use Rattle.theory.specs.Bytes.{Book, program_of, Agrees}
 use Rattle.theory.proofs.Bounds.{question-fits}
 use Rattle.theory.proofs.Readability.{length-words}
 use Rattle.checker.specs.declared.Checked.{Checked}
-use Rattle.checker.specs.Answer.{checked_of, table}
+use Rattle.checker.specs.Answer.{checked_of}
 use Rattle.checker.proofs.Callers.{rules-most, within}
 use Rattle.translator.specs.Accepted.{Accepted, Asked, OfQuestion}
 use Rattle.translator.specs.Answered.{answered, filled}

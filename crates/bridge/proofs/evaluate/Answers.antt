@@ -1,11 +1,9 @@
 -- `bridge::evaluate` meets its contract.
-use borrow.Author.Tests.{not-true, not-false}
 use mathlib.Core.Path.{sym, ap, ◌∙◌}
 use Rattle.bridge.specs.declared.judge.Judged.{Judged}
 use Rattle.bridge.specs.Judged.{judged_as}
 use Rattle.bridge.proofs.Judging.{accepted}
 use Rattle.bridge.proofs.Allowing.{within-allowances, evaluate-refused, evaluate-barred, evaluate-runs}
-use borrow.Author.Rules.{rules}
 use Rattle.bridge.proofs.evaluate.Goals as goal
 
 pub returns-then-refusal-ne0 : goal.returns-then-refusal-ne0
@@ -18,7 +16,7 @@ returns-then-not-allowed c =
 
 pub evaluate_accepted-requires : goal.evaluate_accepted-requires
 evaluate_accepted-requires c =
-        let w = within-allowances _ _ _ (sym c.allowed.ensures ∙ c.if-not-allowed.false) in
+    let w = within-allowances _ _ _ (sym c.allowed.ensures ∙ c.if-not-allowed.false) in
     record {
       accepts = accepted _ _ _ c.judge-judged.ensures c.if-refusal-ne0.false;
       steps_bound = (w.0, w.2);

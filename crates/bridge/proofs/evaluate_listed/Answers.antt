@@ -1,6 +1,5 @@
 -- `bridge::evaluate_listed` meets its contract.
 use Rattle.bridge.proofs.Lending.{question-front, standing-is, engine-lent}
-use borrow.Author.Rules.{rules}
 use Rattle.bridge.proofs.evaluate_listed.Goals as goal
 
 pub slice_bounds-run_evaluator-end : goal.slice_bounds-run_evaluator-end

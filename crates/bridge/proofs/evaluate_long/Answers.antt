@@ -2,7 +2,6 @@
 use lib.ListN.{replicate}
 use Rattle.bridge.specs.Accepted.{own_words}
 use Rattle.bridge.proofs.Lending.{own-front, never-short, asks}
-use borrow.Author.Rules.{rules}
 use Rattle.bridge.proofs.evaluate_long.Goals as goal
 
 pub own_words-requires : goal.own_words-requires
@@ -15,7 +14,7 @@ slice_bounds-evaluate_listed-end c =
 
 pub evaluate_listed-requires : goal.evaluate_listed-requires
 evaluate_listed-requires c =
-        let a = c.requires.accepts.checks in
+    let a = c.requires.accepts.checks in
     let n = own-front (own_words a.book) (replicate 15504 0) _ _ _ (c.own_words.ensures.value a) (c.own_words.ensures.dst_after a) c.in-Count.is in
     record {
       listed = record { asks = asks c.requires.accepts; own_is = n.0.front };

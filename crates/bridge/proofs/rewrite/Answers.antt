@@ -4,7 +4,6 @@ use Rattle.bridge.specs.declared.judge.Judged.{Judged}
 use Rattle.bridge.specs.Judged.{judged_as}
 use Rattle.bridge.proofs.Judging.{accepted}
 use Rattle.bridge.proofs.Allowing.{within-limits, rewrite-refused, rewrite-limited}
-use borrow.Author.Rules.{rules}
 use Rattle.bridge.proofs.rewrite.Goals as goal
 
 pub returns-then-refusal-ne0 : goal.returns-then-refusal-ne0
@@ -19,6 +18,6 @@ returns-then-number-ne0 c =
 
 pub rewrite_lent-requires : goal.rewrite_lent-requires
 rewrite_lent-requires c = record {
-      accepts = accepted _ _ _ c.judge-judged.ensures c.if-refusal-ne0.false;
-      steps_bound = within-limits _ _ _ _ (sym c.limit-number.ensures ∙ c.if-number-ne0.false);
-    }
+  accepts = accepted _ _ _ c.judge-judged.ensures c.if-refusal-ne0.false;
+  steps_bound = within-limits _ _ _ _ (sym c.limit-number.ensures ∙ c.if-number-ne0.false);
+}

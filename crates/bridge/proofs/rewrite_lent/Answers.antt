@@ -2,7 +2,6 @@
 use Rattle.bridge.specs.Accepted.{own_words}
 use Rattle.bridge.proofs.Lending.{own-front, own-unwritten, asks}
 use Rattle.bridge.proofs.Allowing.{rewrite-listed-runs, rewrite-own-short}
-use borrow.Author.Rules.{rules}
 use Rattle.bridge.proofs.rewrite_lent.Goals as goal
 
 pub own_words-requires : goal.own_words-requires
@@ -15,7 +14,7 @@ slice_bounds-rewrite_listed-end c =
 
 pub rewrite_listed-requires : goal.rewrite_listed-requires
 rewrite_listed-requires c =
-        let a = c.requires.accepts.checks in
+    let a = c.requires.accepts.checks in
     let n = own-front (own_words a.book) c.args.own.now _ _ _ (c.own_words.ensures.value a) (c.own_words.ensures.dst_after a) c.in-Count.is in
     record {
       listed = record { asks = asks c.requires.accepts; own_is = n.0.front };

@@ -1,6 +1,5 @@
 -- `bridge::rewrite_listed` meets its contract.
 use Rattle.bridge.proofs.Lending.{question-front, standing-is, engine-lent}
-use borrow.Author.Rules.{rules}
 use Rattle.bridge.proofs.rewrite_listed.Goals as goal
 
 pub slice_bounds-run_rewriter-end : goal.slice_bounds-run_rewriter-end
@@ -10,7 +9,7 @@ slice_bounds-run_rewriter-end c =
 
 pub run_rewriter-requires : goal.run_rewriter-requires
 run_rewriter-requires c =
-        let a = c.requires.listed.asks in
+    let a = c.requires.listed.asks in
     let f = (question-front _ _ a _ _ (c.question_words-n.ensures.value a) (c.question_words-n.ensures.dst_after a)).front in
     record {
       lent = engine-lent a.accepts _ _ _ f (standing-is _ c.standing_list-standing.ensures) c.requires.listed.own_is;

@@ -1,5 +1,4 @@
 -- `page::print` meets its contract. What is put there can be read there, since it is no longer than `out`.
-use borrow.Author.Rules.{rules}
 use native.Mathlib.Omega.{arith}
 use Rattle.page.proofs.Laws.{shown}
 use Rattle.page.proofs.print.Goals as goal

@@ -1,5 +1,4 @@
 -- `page::put_broken` meets its contract.
-use borrow.Author.Rules.{rules}
 use mathlib.Core.Path.{ap}
 use Rattle.wording.proofs.Laws.{same_text}
 use Rattle.page.specs.Printed.{refusal_line}
@@ -7,6 +6,6 @@ use Rattle.page.proofs.put_broken.Goals as goal
 
 pub returns : goal.returns
 returns c = record {
-      wrote = same_text (ap refusal_line c.refused-report.ensures) c.put_refused.ensures.wrote;
-      upper_bound = c.put_refused.ensures.upper_bound;
-    }
+  wrote = same_text (ap refusal_line c.refused-report.ensures) c.put_refused.ensures.wrote;
+  upper_bound = c.put_refused.ensures.upper_bound;
+}

@@ -1,6 +1,5 @@
 -- `bridge::door::puffinest_evaluate` meets its contract.
 use Rattle.bridge.proofs.Telling.{told-short, told-long}
-use borrow.Author.Rules.{rules}
 use Rattle.bridge.proofs.door.puffinest_evaluate.Goals as goal
 
 pub returns-then-report-lt7 : goal.returns-then-report-lt7

@@ -1,6 +1,5 @@
 -- `bridge::door::puffinest_rewrite` meets its contract.
 use Rattle.bridge.proofs.Telling.{opens-short, opens-long}
-use borrow.Author.Rules.{rules}
 use Rattle.bridge.proofs.door.puffinest_rewrite.Goals as goal
 
 pub returns-then-report-lt7 : goal.returns-then-report-lt7

@@ -2,7 +2,6 @@
 use lib.ListN.{length-set}
 use Rattle.bridge.proofs.Telling.{seven-stores}
 use native.Mathlib.Omega.{arith}
-use borrow.Author.Rules.{rules}
 use Rattle.bridge.proofs.door.tell.Goals as goal
 
 pub bounds-report-1 : goal.bounds-report-1

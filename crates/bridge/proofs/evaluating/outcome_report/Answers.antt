@@ -3,7 +3,6 @@ use mathlib.Core.Path.{refl}
 use Rattle.bridge.proofs.Endings.{ending-with}
 use Rattle.bridge.proofs.EvaluatorAnswers.{outcome-by}
 use Rattle.evaluator.specs.declared.values.Ending.TheVariants.{Done, Raised, Stuck, Out, Deep}
-use borrow.Author.Rules.{rules}
 use Rattle.bridge.proofs.evaluating.outcome_report.Goals as goal
 
 pub returns-in-Done : goal.returns-in-Done

@@ -1,6 +1,5 @@
 -- `bridge::evaluating::run_evaluator` meets its contract.
 use Rattle.bridge.proofs.EvaluatorAnswers.{evaluator-answers}
-use borrow.Author.Rules.{rules}
 use Rattle.bridge.proofs.evaluating.run_evaluator.Goals as goal
 
 pub returns : goal.returns

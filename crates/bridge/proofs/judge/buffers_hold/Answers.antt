@@ -3,7 +3,6 @@ use mathlib.Core.Path.{ap, ◌∙◌}
 use Prim.Native.Nat.{ℕ}
 use native.Mathlib.Omega.{arith}
 use lib.Dec.{leb}
-use borrow.Author.Rules.{rules}
 use Rattle.bridge.proofs.Allowing.{first_short, by-second}
 use Rattle.bridge.proofs.judge.buffers_hold.Goals as goal
 

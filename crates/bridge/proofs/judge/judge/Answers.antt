@@ -2,7 +2,6 @@
 use native.Mathlib.Omega.{arith}
 use Rattle.checker.proofs.Callers.{within}
 use Rattle.bridge.proofs.Judging.{program-place, program-refused, question-place, question-refused}
-use borrow.Author.Rules.{rules}
 use Rattle.bridge.proofs.judge.judge.Goals as goal
 
 pub refusal_by-refusal-requires : goal.refusal_by-refusal-requires

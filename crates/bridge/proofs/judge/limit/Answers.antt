@@ -1,7 +1,5 @@
 -- `judge::limit` meets its contract.
 use mathlib.Core.Path.{sym, ◌∙◌}
-use borrow.Author.Rules.{rules}
-use borrow.Author.Tests.{not-true, not-false}
 use Rattle.bridge.proofs.Allowing.{barred, short, unlimited}
 use Rattle.bridge.proofs.judge.limit.Goals as goal
 

@@ -1,6 +1,5 @@
 -- `bridge::judge::refusal_by` meets its contract.
 use Rattle.bridge.proofs.Judging.{by-none, by_number}
-use borrow.Author.Rules.{rules}
 use Rattle.bridge.proofs.judge.refusal_by.Goals as goal
 
 pub returns-then-number-eq0 : goal.returns-then-number-eq0

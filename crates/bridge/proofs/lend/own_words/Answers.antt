@@ -2,7 +2,6 @@
 use mathlib.Core.Path.{refl}
 use native.Mathlib.Omega.{arith}
 use Rattle.bridge.proofs.TranslatorWords.{own_same, own-accepted, openings-inside, own-counted, own-not-counted, own-filled}
-use borrow.Author.Rules.{rules}
 use Rattle.bridge.proofs.lend.own_words.Goals as goal
 
 pub slice_bounds-own_list-end-2 : goal.slice_bounds-own_list-end-2

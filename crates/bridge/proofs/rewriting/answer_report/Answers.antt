@@ -3,7 +3,6 @@ use mathlib.Core.Path.{refl}
 use Rattle.bridge.proofs.Endings.{ending-with}
 use Rattle.bridge.proofs.RewriterAnswers.{rewriting-by, amount-fits}
 use Rattle.rewriter.specs.declared.ending.Said.TheVariants.{Value, Raised, Stuck, Out, Big}
-use borrow.Author.Rules.{rules}
 use Rattle.bridge.proofs.rewriting.answer_report.Goals as goal
 
 pub u32_of_size-requires : goal.u32_of_size-requires

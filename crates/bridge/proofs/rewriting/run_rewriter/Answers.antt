@@ -4,7 +4,6 @@ use mathlib.Core.Path.{ap, ◌∙◌}
 use lib.ListN.{replicate}
 use Rattle.theory.specs.Buffers.{over}
 use Rattle.bridge.proofs.RewriterAnswers.{rewriter-answers, rewriter-first, answer-fits}
-use borrow.Author.Rules.{rules}
 use Rattle.bridge.proofs.rewriting.run_rewriter.Goals as goal
 
 pub answer_report-requires : goal.answer_report-requires
@@ -14,7 +13,7 @@ answer_report-requires c =
 
 pub returns : goal.returns
 returns c =
-        let er = c.size_of_u32-2.ensures.value in
+    let er = c.size_of_u32-2.ensures.value in
     let en = c.size_of_u32.ensures.value in
     record {
       value = λ l. rewriter-answers l _ _ c.index_of-standing_index.ensures c.index_of-own_index.ensures _ _ _ _ er en _ _ _ c.rewrite-answer.ensures.value c.rewrite-answer.ensures.first_after _ c.answer_report.ensures;
