@@ -9,6 +9,14 @@ use Rattle.splice.proofs.Laws.{length_part}
 use Rattle.splice.proofs.Step.{step-big, step_room, step_fits}
 use borrow.Author.Rules.{rules}
 use Rattle.splice.proofs.step_into.Goals as goal
+use Rattle.splice.proofs.step_into.Goals.{In-Count}
+
+roomy : (c : In-Count) → let args = c.args in args.at + c.in-Count.n + (length args.term.now - args.end) ≤ args.room
+roomy c =
+    let args = c.args in
+    (step_room args.term.now (new (part args.at (length args.term.now) args.term.now) args.starts.now args.ends.now args.right.now) args.second.now args.at args.end args.room
+    c.requires.at_le_end.0 c.requires.at_le_end.1.0 c.requires.at_le_end.1.1.0 c.requires.at_le_end.1.1.1 c.write_right.new.dst c.write_right.ensures.dst_after
+    c.in-Count.n (sym c.write_right.ensures.value ∙ c.in-Count.is)).1
 
 pub write_right-requires : goal.write_right-requires
 write_right-requires c =
@@ -20,39 +28,19 @@ write_right-requires c =
 
 pub overflow_add-at : goal.overflow_add-at
 overflow_add-at c =
-    let roomy : let args = c.args in args.at + c.in-Count.n + (length args.term.now - args.end) ≤ args.room =
-    let args = c.args in
-    (step_room args.term.now (new (part args.at (length args.term.now) args.term.now) args.starts.now args.ends.now args.right.now) args.second.now args.at args.end args.room
-    c.requires.at_le_end.0 c.requires.at_le_end.1.0 c.requires.at_le_end.1.1.0 c.requires.at_le_end.1.1.1 c.write_right.new.dst c.write_right.ensures.dst_after
-    c.in-Count.n (sym c.write_right.ensures.value ∙ c.in-Count.is)).1 in
-    omega (arith, roomy)
+    omega (arith, roomy (goal.at.overflow_add-at c).In-Count)
 
 pub put_around-requires : goal.put_around-requires
 put_around-requires c =
-    let roomy : let args = c.args in args.at + c.in-Count.n + (length args.term.now - args.end) ≤ args.room =
-    let args = c.args in
-    (step_room args.term.now (new (part args.at (length args.term.now) args.term.now) args.starts.now args.ends.now args.right.now) args.second.now args.at args.end args.room
-    c.requires.at_le_end.0 c.requires.at_le_end.1.0 c.requires.at_le_end.1.1.0 c.requires.at_le_end.1.1.1 c.write_right.new.dst c.write_right.ensures.dst_after
-    c.in-Count.n (sym c.write_right.ensures.value ∙ c.in-Count.is)).1 in
-    (search rules, (search rules, (omega arith, omega (arith, roomy))))
+    (search rules, (search rules, (omega arith, omega (arith, roomy (goal.at.put_around-requires c).In-Count))))
 
 pub overflow_add-result : goal.overflow_add-result
 overflow_add-result c =
-    let roomy : let args = c.args in args.at + c.in-Count.n + (length args.term.now - args.end) ≤ args.room =
-    let args = c.args in
-    (step_room args.term.now (new (part args.at (length args.term.now) args.term.now) args.starts.now args.ends.now args.right.now) args.second.now args.at args.end args.room
-    c.requires.at_le_end.0 c.requires.at_le_end.1.0 c.requires.at_le_end.1.1.0 c.requires.at_le_end.1.1.1 c.write_right.new.dst c.write_right.ensures.dst_after
-    c.in-Count.n (sym c.write_right.ensures.value ∙ c.in-Count.is)).1 in
-    omega (arith, roomy)
+    omega (arith, roomy (goal.at.overflow_add-result c).In-Count)
 
 pub overflow_add-result-in-Count : goal.overflow_add-result-in-Count
 overflow_add-result-in-Count c =
-    let roomy : let args = c.args in args.at + c.in-Count.n + (length args.term.now - args.end) ≤ args.room =
-    let args = c.args in
-    (step_room args.term.now (new (part args.at (length args.term.now) args.term.now) args.starts.now args.ends.now args.right.now) args.second.now args.at args.end args.room
-    c.requires.at_le_end.0 c.requires.at_le_end.1.0 c.requires.at_le_end.1.1.0 c.requires.at_le_end.1.1.1 c.write_right.new.dst c.write_right.ensures.dst_after
-    c.in-Count.n (sym c.write_right.ensures.value ∙ c.in-Count.is)).1 in
-    omega (arith, roomy)
+    omega (arith, roomy (goal.at.overflow_add-result-in-Count c).In-Count)
 
 pub returns-in-TooBig : goal.returns-in-TooBig
 returns-in-TooBig c =

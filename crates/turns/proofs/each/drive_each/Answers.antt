@@ -10,6 +10,14 @@ use Rattle.turns.specs.Run.{run, Drove}
 use Rattle.turns.specs.declared.run.Driven.{Driven}
 use Rattle.turns.proofs.Runs.{going_start, stopped, less-left, goes_on, goes-on-path}
 use Rattle.turns.proofs.each.drive_each.Goals as goal
+use Rattle.turns.proofs.each.drive_each.Goals.{In-Go}
+
+left : (c : In-Go) → c.loop-ending.steps < c.args.allowance
+left c =
+    let a = c.args in
+    less-left (next_w a.arities.now a.standing.now a.own.now a.standing_index.now a.own_index.now) a.room a.allowance (take a.len a.first.now) a.first.now a.second.now c.loop-ending.first c.loop-ending.second
+    c.cross-crossed.new.first c.cross-crossed.new.second c.loop-ending.flip c.loop-ending.size c.loop-ending.steps c.loop-ending.invariant.0 c.cross-crossed.ensures.turned c.requires.len_le_room.1.0 c.requires.len_le_room.1.1.0
+    c.in-Go.n (sym c.cross-crossed.ensures.next_value ∙ c.in-Go.is)
 
 pub loop-ending-init : goal.loop-ending-init
 loop-ending-init c =
@@ -47,21 +55,11 @@ returns-in-Stop c =
 
 pub overflow_add-steps : goal.overflow_add-steps
 overflow_add-steps c =
-    let left : c.loop-ending.steps < c.args.allowance =
-    let a = c.args in
-    less-left (next_w a.arities.now a.standing.now a.own.now a.standing_index.now a.own_index.now) a.room a.allowance (take a.len a.first.now) a.first.now a.second.now c.loop-ending.first c.loop-ending.second
-    c.cross-crossed.new.first c.cross-crossed.new.second c.loop-ending.flip c.loop-ending.size c.loop-ending.steps c.loop-ending.invariant.0 c.cross-crossed.ensures.turned c.requires.len_le_room.1.0 c.requires.len_le_room.1.1.0
-    c.in-Go.n (sym c.cross-crossed.ensures.next_value ∙ c.in-Go.is) in
-    omega (arith, left, c.requires.allowance_bound)
+    omega (arith, left (goal.at.overflow_add-steps c).In-Go, c.requires.allowance_bound)
 
 pub loop-ending-smaller : goal.loop-ending-smaller
 loop-ending-smaller c =
-    let left : c.loop-ending.steps < c.args.allowance =
-    let a = c.args in
-    less-left (next_w a.arities.now a.standing.now a.own.now a.standing_index.now a.own_index.now) a.room a.allowance (take a.len a.first.now) a.first.now a.second.now c.loop-ending.first c.loop-ending.second
-    c.cross-crossed.new.first c.cross-crossed.new.second c.loop-ending.flip c.loop-ending.size c.loop-ending.steps c.loop-ending.invariant.0 c.cross-crossed.ensures.turned c.requires.len_le_room.1.0 c.requires.len_le_room.1.1.0
-    c.in-Go.n (sym c.cross-crossed.ensures.next_value ∙ c.in-Go.is) in
-    omega (arith, left)
+    omega (arith, left (goal.at.loop-ending-smaller c).In-Go)
 
 pub loop-ending-preserved : goal.loop-ending-preserved
 loop-ending-preserved c =

@@ -10,6 +10,15 @@ use Rattle.turns.specs.Run.{run, Drove}
 use Rattle.turns.specs.declared.run.Driven.{Driven}
 use Rattle.turns.proofs.Runs.{going_start, round-stopped, round-left, round-goes-on}
 use Rattle.turns.proofs.run.drive.Goals as goal
+use Rattle.turns.proofs.run.drive.Goals.{In-Go}
+
+left : (c : In-Go) → c.round-done.result.steps < c.args.allowance
+left c =
+    let a = c.args in
+    round-left a.arities.now (next_w a.arities.now a.standing.now a.own.now a.standing_index.now a.own_index.now) a.room a.allowance (take a.len a.first.now) a.first.now a.second.now c.loop-ending.first c.loop-ending.second
+    c.round-done.new.first c.round-done.new.second c.round-done.new.path c.loop-ending.flip c.loop-ending.size c.loop-ending.steps c.round-done.result c.loop-ending.invariant.0 c.round-done.ensures c.requires.len_le_room.1.0 c.requires.len_le_room.1.1.0
+    c.round-done.auto.first c.round-done.auto.second
+    c.in-Go.n c.in-Go.is
 
 pub loop-ending-init : goal.loop-ending-init
 loop-ending-init c =
@@ -49,23 +58,11 @@ returns-in-Stop c =
 
 pub overflow_add-steps : goal.overflow_add-steps
 overflow_add-steps c =
-    let left : c.round-done.result.steps < c.args.allowance =
-    let a = c.args in
-    round-left a.arities.now (next_w a.arities.now a.standing.now a.own.now a.standing_index.now a.own_index.now) a.room a.allowance (take a.len a.first.now) a.first.now a.second.now c.loop-ending.first c.loop-ending.second
-    c.round-done.new.first c.round-done.new.second c.round-done.new.path c.loop-ending.flip c.loop-ending.size c.loop-ending.steps c.round-done.result c.loop-ending.invariant.0 c.round-done.ensures c.requires.len_le_room.1.0 c.requires.len_le_room.1.1.0
-    c.round-done.auto.first c.round-done.auto.second
-    c.in-Go.n c.in-Go.is in
-    omega (arith, left, c.requires.allowance_bound)
+    omega (arith, left (goal.at.overflow_add-steps c).In-Go, c.requires.allowance_bound)
 
 pub loop-ending-smaller : goal.loop-ending-smaller
 loop-ending-smaller c =
-    let left : c.round-done.result.steps < c.args.allowance =
-    let a = c.args in
-    round-left a.arities.now (next_w a.arities.now a.standing.now a.own.now a.standing_index.now a.own_index.now) a.room a.allowance (take a.len a.first.now) a.first.now a.second.now c.loop-ending.first c.loop-ending.second
-    c.round-done.new.first c.round-done.new.second c.round-done.new.path c.loop-ending.flip c.loop-ending.size c.loop-ending.steps c.round-done.result c.loop-ending.invariant.0 c.round-done.ensures c.requires.len_le_room.1.0 c.requires.len_le_room.1.1.0
-    c.round-done.auto.first c.round-done.auto.second
-    c.in-Go.n c.in-Go.is in
-    omega (arith, left, c.round-done.ensures.more)
+    omega (arith, left (goal.at.loop-ending-smaller c).In-Go, c.round-done.ensures.more)
 
 pub loop-ending-preserved : goal.loop-ending-preserved
 loop-ending-preserved c =
