@@ -21,7 +21,8 @@ bounds-path-n c =
 
 pub returns-then-is_at : goal.returns-then-is_at
 returns-then-is_at c =
-    let a = c.args in let both = climb-found a.arities.now (fitting_of a.arities.now a.standing.now a.own.now a.standing_index.now a.own_index.now) a.term.now a.path.now a.deepest c.requires.on_path c.loop-site.n c.loop-site.invariant.0 c.loop-site.invariant.1 c.here-site.result c.here-site.ensures (sym c.is_at.ensures ∙ c.if-is_at.true) in
+    let a = c.args in
+    let both = climb-found a.arities.now (fitting_of a.arities.now a.standing.now a.own.now a.standing_index.now a.own_index.now) a.term.now a.path.now a.deepest c.requires.on_path c.loop-site.n c.loop-site.invariant.0 c.loop-site.invariant.1 c.here-site.result c.here-site.ensures (sym c.is_at.ensures ∙ c.if-is_at.true) in
     record {
       site_value = both.0;
       noted = both.1;
@@ -29,7 +30,8 @@ returns-then-is_at c =
 
 pub returns-then-n-eq0 : goal.returns-then-n-eq0
 returns-then-n-eq0 c =
-    let a = c.args in let both = climb-ended a.arities.now (fitting_of a.arities.now a.standing.now a.own.now a.standing_index.now a.own_index.now) a.term.now a.path.now a.deepest c.requires.on_path c.loop-site.n c.loop-site.invariant.0 c.loop-site.invariant.1 c.here-site.result c.here-site.ensures (sym c.is_at.ensures ∙ c.if-is_at.false) c.if-n-eq0.true in
+    let a = c.args in
+    let both = climb-ended a.arities.now (fitting_of a.arities.now a.standing.now a.own.now a.standing_index.now a.own_index.now) a.term.now a.path.now a.deepest c.requires.on_path c.loop-site.n c.loop-site.invariant.0 c.loop-site.invariant.1 c.here-site.result c.here-site.ensures (sym c.is_at.ensures ∙ c.if-is_at.false) c.if-n-eq0.true in
     record {
       site_value = both.0;
       noted = both.1;

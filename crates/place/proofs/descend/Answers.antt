@@ -9,6 +9,11 @@ use Rattle.place.specs.Path.{below_at, here_in, site_at}
 use Rattle.place.proofs.Noted.{number-within, path-down, path-noted, site-deepest}
 use Rattle.place.proofs.Quiet.{value-quiet}
 use Rattle.place.proofs.descend.Goals as goal
+use Rattle.place.proofs.descend.Goals.{In-End}
+
+down : (c : In-End) → let p = c.in-End.p in (c.loop-at.n + 1 ≤ p) × ((c.loop-at.at < p) × (p ≤ length c.args.term.now))
+down c =
+    path-down _ _ _ _ c.loop-at.invariant.0 _ _ c.loop-at.invariant.1 c.loop-at-test.true (sym c.below.ensures ∙ c.in-End.is)
 
 pub offset_bounds-path-n : goal.offset_bounds-path-n
 offset_bounds-path-n c =
@@ -53,27 +58,21 @@ returns-in-Short c =
 
 pub overflow_add-n : goal.overflow_add-n
 overflow_add-n c =
-    let down : let p = c.in-End.p in (c.loop-at.n + 1 ≤ p) × ((c.loop-at.at < p) × (p ≤ length c.args.term.now)) =
-    path-down _ _ _ _ c.loop-at.invariant.0 _ _ c.loop-at.invariant.1 c.loop-at-test.true (sym c.below.ensures ∙ c.in-End.is) in
-    let d = down in search rules
+    let d = down (goal.at.overflow_add-n c).In-End in
+    search rules
 
 pub offset_bounds-path-n-in-End : goal.offset_bounds-path-n-in-End
 offset_bounds-path-n-in-End c =
-    let down : let p = c.in-End.p in (c.loop-at.n + 1 ≤ p) × ((c.loop-at.at < p) × (p ≤ length c.args.term.now)) =
-    path-down _ _ _ _ c.loop-at.invariant.0 _ _ c.loop-at.invariant.1 c.loop-at-test.true (sym c.below.ensures ∙ c.in-End.is) in
-    let d = down in search rules
+    let d = down (goal.at.offset_bounds-path-n-in-End c).In-End in
+    search rules
 
 pub bounds-path-n-in-End : goal.bounds-path-n-in-End
 bounds-path-n-in-End c =
-    let down : let p = c.in-End.p in (c.loop-at.n + 1 ≤ p) × ((c.loop-at.at < p) × (p ≤ length c.args.term.now)) =
-    path-down _ _ _ _ c.loop-at.invariant.0 _ _ c.loop-at.invariant.1 c.loop-at-test.true (sym c.below.ensures ∙ c.in-End.is) in
-    omega (arith, down, c.requires.term_in_bounds, c.loop-at.invariant.2)
+    omega (arith, down (goal.at.bounds-path-n-in-End c).In-End, c.requires.term_in_bounds, c.loop-at.invariant.2)
 
 pub loop-at-smaller : goal.loop-at-smaller
 loop-at-smaller c =
-    let down : let p = c.in-End.p in (c.loop-at.n + 1 ≤ p) × ((c.loop-at.at < p) × (p ≤ length c.args.term.now)) =
-    path-down _ _ _ _ c.loop-at.invariant.0 _ _ c.loop-at.invariant.1 c.loop-at-test.true (sym c.below.ensures ∙ c.in-End.is) in
-    omega (arith, down)
+    omega (arith, down (goal.at.loop-at-smaller c).In-End)
 
 pub loop-at-preserved : goal.loop-at-preserved
 loop-at-preserved c =

@@ -44,7 +44,8 @@ overflow_add-result-in-Count c =
 
 pub returns-in-TooBig : goal.returns-in-TooBig
 returns-in-TooBig c =
-    let args = c.args in let both = step-big args.term.now (new (part args.at (length args.term.now) args.term.now) args.starts.now args.ends.now args.right.now) args.second.now args.at args.end args.room
+    let args = c.args in
+    let both = step-big args.term.now (new (part args.at (length args.term.now) args.term.now) args.starts.now args.ends.now args.right.now) args.second.now args.at args.end args.room
     c.requires.at_le_end.0 c.requires.at_le_end.1.0 c.requires.at_le_end.1.1.0 c.requires.at_le_end.1.1.1 c.write_right.new.dst c.write_right.ensures.dst_after
     (sym c.write_right.ensures.value ∙ c.in-TooBig.is) in
     record {
@@ -54,7 +55,8 @@ returns-in-TooBig c =
 
 pub returns-in-Count : goal.returns-in-Count
 returns-in-Count c =
-    let args = c.args in let both = step_fits args.term.now (new (part args.at (length args.term.now) args.term.now) args.starts.now args.ends.now args.right.now) args.second.now args.at args.end args.room
+    let args = c.args in
+    let both = step_fits args.term.now (new (part args.at (length args.term.now) args.term.now) args.starts.now args.ends.now args.right.now) args.second.now args.at args.end args.room
     c.requires.at_le_end.0 c.requires.at_le_end.1.0 c.requires.at_le_end.1.1.0 c.requires.at_le_end.1.1.1 c.write_right.new.dst c.write_right.ensures.dst_after
     c.in-Count.n c.put_around.new.second (sym c.write_right.ensures.value ∙ c.in-Count.is) c.put_around.ensures in
     record {

@@ -11,7 +11,8 @@ use Rattle.step.proofs.apply_rule.Goals as goal
 
 pub returns-then-rule-lt2 : goal.returns-then-rule-lt2
 returns-then-rule-lt2 c =
-    let a = c.args in let both = nothing a.room (ruled a.arities.now a.rule.now a.term.now a.p) a.second.now (ruled-short a.arities.now a.rule.now a.term.now a.p c.if-rule-lt2.true) in
+    let a = c.args in
+    let both = nothing a.room (ruled a.arities.now a.rule.now a.term.now a.p) a.second.now (ruled-short a.arities.now a.rule.now a.term.now a.p c.if-rule-lt2.true) in
     record {
       value = both.0;
       second_after = both.1;
@@ -19,7 +20,8 @@ returns-then-rule-lt2 c =
 
 pub returns-then-rule-to : goal.returns-then-rule-to
 returns-then-rule-to c =
-    let a = c.args in let both = nothing a.room (ruled a.arities.now a.rule.now a.term.now a.p) a.second.now
+    let a = c.args in
+    let both = nothing a.room (ruled a.arities.now a.rule.now a.term.now a.p) a.second.now
     (ruled-cut a.arities.now a.rule.now a.term.now a.p c.if-rule-lt2.false c.size_of_word-l.result c.size_of_word-r.result c.size_of_word-l.ensures.value c.size_of_word-r.ensures.value c.if-rule-to.true) in
     record {
       value = both.0;
@@ -44,7 +46,8 @@ returns-then-term-e c =
     let a = c.args in
     let pre = c.requires in
     let l = c.size_of_word-l.result in
-    let r = c.size_of_word-r.result in let both = nothing a.room (ruled a.arities.now a.rule.now a.term.now a.p) a.second.now (ruled-over a.arities.now a.rule.now a.term.now a.p c.if-rule-lt2.false l r c.size_of_word-l.ensures.value c.size_of_word-r.ensures.value c.if-rule-to.false c.bind-b.result c.bind-b.ensures c.left_end.result c.left_end.ensures.value c.if-term-e.true) in
+    let r = c.size_of_word-r.result in
+    let both = nothing a.room (ruled a.arities.now a.rule.now a.term.now a.p) a.second.now (ruled-over a.arities.now a.rule.now a.term.now a.p c.if-rule-lt2.false l r c.size_of_word-l.ensures.value c.size_of_word-r.ensures.value c.if-rule-to.false c.bind-b.result c.bind-b.ensures c.left_end.result c.left_end.ensures.value c.if-term-e.true) in
     record {
       value = both.0;
       second_after = both.1;
@@ -70,7 +73,8 @@ returns c =
     let a = c.args in
     let pre = c.requires in
     let l = c.size_of_word-l.result in
-    let r = c.size_of_word-r.result in let both = answered a.room (ruled a.arities.now a.rule.now a.term.now a.p)
+    let r = c.size_of_word-r.result in
+    let both = answered a.room (ruled a.arities.now a.rule.now a.term.now a.p)
     (step_of a.term.now a.p (a.p + c.left_end.result) (take (2 + l + r - (2 + l)) (drop (2 + l) a.rule.now)) c.bind-b.result.starts c.bind-b.result.ends) a.second.now
     c.step_into.new.second c.step_into.result c.made_by.result
     (ruled-is a.arities.now a.rule.now a.term.now a.p c.if-rule-lt2.false l r c.size_of_word-l.ensures.value c.size_of_word-r.ensures.value c.if-rule-to.false c.bind-b.result c.bind-b.ensures c.left_end.result c.left_end.ensures.value c.if-term-e.false)

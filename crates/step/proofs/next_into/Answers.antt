@@ -24,7 +24,8 @@ apply_rule-requires c =
 pub returns-in-Nothing : goal.returns-in-Nothing
 returns-in-Nothing c =
     let a = c.args in
-    let N = next_w a.arities.now a.standing.now a.own.now a.standing_index.now a.own_index.now a.term.now in let both = nothing a.room N a.second.now
+    let N = next_w a.arities.now a.standing.now a.own.now a.standing_index.now a.own_index.now a.term.now in
+    let both = nothing a.room N a.second.now
     (next-none a.arities.now a.standing.now a.own.now a.standing_index.now a.own_index.now a.term.now (sym c.requires.site_value ∙ c.in-Nothing.is)) in
     record {
       value = both.0;

@@ -34,7 +34,8 @@ pub returns-then-flip : goal.returns-then-flip
 returns-then-flip c =
     let a = c.args in
     let N = next_w a.arities.now a.standing.now a.own.now a.standing_index.now a.own_index.now in
-    let find = fitting_of a.arities.now a.standing.now a.own.now a.standing_index.now a.own_index.now in let both = settled_back a.arities.now find N a.flip a.room a.left a.size a.first.now a.second.now c.pass.new.path c.pass.result
+    let find = fitting_of a.arities.now a.standing.now a.own.now a.standing_index.now a.own_index.now in
+    let both = settled_back a.arities.now find N a.flip a.room a.left a.size a.first.now a.second.now c.pass.new.path c.pass.result
     c.pass.new.term c.if-flip.true c.pass.ensures in
     record {
       passing = both.0;
@@ -45,7 +46,8 @@ pub returns-else-flip : goal.returns-else-flip
 returns-else-flip c =
     let a = c.args in
     let N = next_w a.arities.now a.standing.now a.own.now a.standing_index.now a.own_index.now in
-    let find = fitting_of a.arities.now a.standing.now a.own.now a.standing_index.now a.own_index.now in let both = settled_on a.arities.now find N a.flip a.room a.left a.size a.first.now a.second.now c.pass-else-flip.new.path c.pass-else-flip.result
+    let find = fitting_of a.arities.now a.standing.now a.own.now a.standing_index.now a.own_index.now in
+    let both = settled_on a.arities.now find N a.flip a.room a.left a.size a.first.now a.second.now c.pass-else-flip.new.path c.pass-else-flip.result
     c.pass-else-flip.new.term c.if-flip.false c.pass-else-flip.ensures in
     record {
       passing = both.0;

@@ -42,7 +42,8 @@ next_into-requires-else-flip c =
 pub returns-then-flip : goal.returns-then-flip
 returns-then-flip c =
     let a = c.args in
-    let N = next_w a.arities.now a.standing.now a.own.now a.standing_index.now a.own_index.now in let both = turned-back N a.flip a.room a.size a.first.now a.second.now c.next_into.new.second c.next_into.result c.if-flip.true c.next_into.ensures.value c.next_into.ensures.second_after in
+    let N = next_w a.arities.now a.standing.now a.own.now a.standing_index.now a.own_index.now in
+    let both = turned-back N a.flip a.room a.size a.first.now a.second.now c.next_into.new.second c.next_into.result c.if-flip.true c.next_into.ensures.value c.next_into.ensures.second_after in
     record {
       value = both.0;
       turned = both.1;
@@ -51,7 +52,8 @@ returns-then-flip c =
 pub returns-else-flip : goal.returns-else-flip
 returns-else-flip c =
     let a = c.args in
-    let N = next_w a.arities.now a.standing.now a.own.now a.standing_index.now a.own_index.now in let both = turned_on N a.flip a.room a.size a.first.now a.second.now c.next_into-else-flip.new.second c.next_into-else-flip.result c.if-flip.false c.next_into-else-flip.ensures.value c.next_into-else-flip.ensures.second_after in
+    let N = next_w a.arities.now a.standing.now a.own.now a.standing_index.now a.own_index.now in
+    let both = turned_on N a.flip a.room a.size a.first.now a.second.now c.next_into-else-flip.new.second c.next_into-else-flip.result c.if-flip.false c.next_into-else-flip.ensures.value c.next_into-else-flip.ensures.second_after in
     record {
       value = both.0;
       turned = both.1;
