@@ -223,7 +223,13 @@ fn answer_all(
     let mut turns = u64::MAX;
     while turns > 0 && !i.over {
         at = put_held(rt, out, at, line, i, program, question, own, first, second)?;
-        i = input::next_line(stdin, chunk, line, i)?;
+        match input::next_line(stdin, chunk, line, i) {
+            Ok(next) => i = next,
+            Err(e) => {
+                output::flush(rt, out, at)?;
+                return Err(e);
+            }
+        }
         turns -= 1;
     }
     output::flush(rt, out, at)

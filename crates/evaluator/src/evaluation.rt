@@ -1,5 +1,5 @@
 // A term and a list of arguments, each evaluated by means of the other. Levels fall from a term to each thing evaluated for it; a list
-// costs no level, and its positions fall. Laid out by hand: what is lent to every call stands on one line.
+// costs no level, and its positions fall.
 ghost use Rattle.std.specs.Prelude.{◌≡◌, ◌+◌, ◌-◌, ◌≤◌, get_or};
 ghost use Rattle.evaluator.specs.Values.{size, most, Small};
 ghost use Rattle.evaluator.specs.Places.{place_past};

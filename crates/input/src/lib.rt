@@ -68,7 +68,8 @@ fn opened(input: Input) -> Input
 // One part more of the line, from a chunk with bytes in it.
 fn line_part(stdin: Stdin, chunk: &mut [u8], line: &mut [u8], input: Input) -> io::Result<Input>
     requires { Within input (length chunk.old) (length line.old) }
-    ensures { IfOk result (λ i. Within i (length chunk.new) (length line.new)) }
+    ensures places { IfOk result (λ i. Within i (length chunk.new) (length line.new)) }
+    ensures lengths { (length chunk.new ≡ length chunk.old) × (length line.new ≡ length line.old) }
 {
     let i = filled(stdin, chunk, input)?;
     let at = i.at;
@@ -82,7 +83,8 @@ fn line_part(stdin: Stdin, chunk: &mut [u8], line: &mut [u8], input: Input) -> i
 // A chunk of which all is read is read anew. Where that gives nothing, the input has ended.
 fn filled(stdin: Stdin, chunk: &mut [u8], input: Input) -> io::Result<Input>
     requires { (input.at ≤ input.end) × (input.end ≤ length chunk.old) }
-    ensures { IfOk result (λ i. (i.at ≤ i.end) × (i.end ≤ length chunk.new) × (i.len ≡ input.len)) }
+    ensures places { IfOk result (λ i. (i.at ≤ i.end) × (i.end ≤ length chunk.new) × (i.len ≡ input.len)) }
+    ensures same_length { length chunk.new ≡ length chunk.old }
 {
     if input.at < input.end {
         return Ok(input);
