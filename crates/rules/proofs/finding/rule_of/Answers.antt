@@ -8,42 +8,40 @@ use Rattle.rules.specs.declared.finding.Fitting.{Fitting}
 use Rattle.rules.proofs.Handed.{in-standing, in-own, in-none}
 use Rattle.rules.specs.Finding.{RuleWithin}
 use Rattle.rules.proofs.finding.rule_of.Goals as goal
+use Rattle.rules.proofs.finding.rule_of.Goals.{In-Own, In-Standing}
+
+-- the rule ends within the list that holds it
+ends : (c : In-Standing) → c.in-Standing.at + c.in-Standing.len ≤ length c.args.standing.now
+ends c =
+    subst (λ (f : Fitting). RuleWithin f (length c.args.standing.now) (length c.args.own.now)) c.in-Standing.is c.requires
+
+ends-2 : (c : In-Own) → c.in-Own.at + c.in-Own.len ≤ length c.args.own.now
+ends-2 c =
+    subst (λ (f : Fitting). RuleWithin f (length c.args.standing.now) (length c.args.own.now)) c.in-Own.is c.requires
 
 pub overflow_add-to : goal.overflow_add-to
 overflow_add-to c =
-    let ends : c.in-Standing.at + c.in-Standing.len ≤ length c.args.standing.now =
-    subst (λ (f : Fitting). RuleWithin f (length c.args.standing.now) (length c.args.own.now)) c.in-Standing.is c.requires in
-    omega (arith, ends)
+    omega (arith, (ends (goal.at.overflow_add-to c).In-Standing))
 
 pub offset_bounds-standing-at : goal.offset_bounds-standing-at
 offset_bounds-standing-at c =
-    let ends : c.in-Standing.at + c.in-Standing.len ≤ length c.args.standing.now =
-    subst (λ (f : Fitting). RuleWithin f (length c.args.standing.now) (length c.args.own.now)) c.in-Standing.is c.requires in
-    omega (arith, ends)
+    omega (arith, (ends (goal.at.offset_bounds-standing-at c).In-Standing))
 
 pub slice_bounds-result-end : goal.slice_bounds-result-end
 slice_bounds-result-end c =
-    let ends : c.in-Standing.at + c.in-Standing.len ≤ length c.args.standing.now =
-    subst (λ (f : Fitting). RuleWithin f (length c.args.standing.now) (length c.args.own.now)) c.in-Standing.is c.requires in
-    ends
+    (ends (goal.at.slice_bounds-result-end c).In-Standing)
 
 pub overflow_add-to-in-Own : goal.overflow_add-to-in-Own
 overflow_add-to-in-Own c =
-    let ends-2 : c.in-Own.at + c.in-Own.len ≤ length c.args.own.now =
-    subst (λ (f : Fitting). RuleWithin f (length c.args.standing.now) (length c.args.own.now)) c.in-Own.is c.requires in
-    omega (arith, ends-2)
+    omega (arith, (ends-2 (goal.at.overflow_add-to-in-Own c).In-Own))
 
 pub offset_bounds-own-at : goal.offset_bounds-own-at
 offset_bounds-own-at c =
-    let ends-2 : c.in-Own.at + c.in-Own.len ≤ length c.args.own.now =
-    subst (λ (f : Fitting). RuleWithin f (length c.args.standing.now) (length c.args.own.now)) c.in-Own.is c.requires in
-    omega (arith, ends-2)
+    omega (arith, (ends-2 (goal.at.offset_bounds-own-at c).In-Own))
 
 pub slice_bounds-result-end-in-Own : goal.slice_bounds-result-end-in-Own
 slice_bounds-result-end-in-Own c =
-    let ends-2 : c.in-Own.at + c.in-Own.len ≤ length c.args.own.now =
-    subst (λ (f : Fitting). RuleWithin f (length c.args.standing.now) (length c.args.own.now)) c.in-Own.is c.requires in
-    ends-2
+    (ends-2 (goal.at.slice_bounds-result-end-in-Own c).In-Own)
 
 pub returns-in-Standing : goal.returns-in-Standing
 returns-in-Standing c =

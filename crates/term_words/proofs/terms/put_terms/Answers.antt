@@ -9,6 +9,18 @@ use Rattle.term_words.specs.Records.{Whole, from}
 use Rattle.term_words.proofs.Laws.{root-inside, whole-first}
 use Rattle.term_words.proofs.Putting.{Putting, putting-start, putting-turn, putting-end, turned, owed-inside, owes-inside, room-root, room-late}
 use Rattle.term_words.proofs.terms.put_terms.Goals as goal
+use Rattle.term_words.proofs.terms.put_terms.Goals.{After-keep, In-loop-owed}
+
+-- at a turn a whole term stands at `next`
+here : (c : In-loop-owed) → let a = c.args in Whole (from a.arities.now a.bytes.now c.loop-owed.next) 1
+here c =
+    let a = c.args in
+    whole-first a.arities.now a.bytes.now c.loop-owed.next c.loop-owed.owed c.loop-owed-test.true c.loop-owed.invariant.0.going.whole
+
+-- the number of terms that are owed then has its slot
+inside : (c : After-keep) → c.loop-owed.owed - 1 + c.root_at-root.result.parts < length c.keep.new.late
+inside c =
+    owes-inside c.loop-owed.invariant.0 c.loop-owed-test.true c.root_at-root.result c.root_at-root.ensures c.keep.new.late c.keep.ensures c.put_root-behind.ensures
 
 pub loop-owed-init : goal.loop-owed-init
 loop-owed-init c =
@@ -17,10 +29,7 @@ loop-owed-init c =
 
 pub root_at-root-requires : goal.root_at-root-requires
 root_at-root-requires c =
-    let here : let a = c.args in Whole (from a.arities.now a.bytes.now c.loop-owed.next) 1 =
-    let a = c.args in
-    whole-first a.arities.now a.bytes.now c.loop-owed.next c.loop-owed.owed c.loop-owed-test.true c.loop-owed.invariant.0.going.whole in
-    here
+    (here (goal.at.root_at-root-requires c).In-loop-owed)
 
 pub put_root-behind-requires : goal.put_root-behind-requires
 put_root-behind-requires c =
@@ -41,15 +50,11 @@ overflow_add-owed c =
 
 pub offset_bounds-late-owed : goal.offset_bounds-late-owed
 offset_bounds-late-owed c =
-    let inside : c.loop-owed.owed - 1 + c.root_at-root.result.parts < length c.keep.new.late =
-    owes-inside c.loop-owed.invariant.0 c.loop-owed-test.true c.root_at-root.result c.root_at-root.ensures c.keep.new.late c.keep.ensures c.put_root-behind.ensures in
-    let h = inside in search rules
+    let h = (inside (goal.at.offset_bounds-late-owed c).After-keep) in search rules
 
 pub bounds-late-owed : goal.bounds-late-owed
 bounds-late-owed c =
-    let inside : c.loop-owed.owed - 1 + c.root_at-root.result.parts < length c.keep.new.late =
-    owes-inside c.loop-owed.invariant.0 c.loop-owed-test.true c.root_at-root.result c.root_at-root.ensures c.keep.new.late c.keep.ensures c.put_root-behind.ensures in
-    inside
+    (inside (goal.at.bounds-late-owed c).After-keep)
 
 pub put_late-to-requires : goal.put_late-to-requires
 put_late-to-requires c =
@@ -57,23 +62,16 @@ put_late-to-requires c =
 
 pub offset_bounds-late-owed-in-loop-owed : goal.offset_bounds-late-owed-in-loop-owed
 offset_bounds-late-owed-in-loop-owed c =
-    let inside : c.loop-owed.owed - 1 + c.root_at-root.result.parts < length c.keep.new.late =
-    owes-inside c.loop-owed.invariant.0 c.loop-owed-test.true c.root_at-root.result c.root_at-root.ensures c.keep.new.late c.keep.ensures c.put_root-behind.ensures in
-    let h = inside in search rules
+    let h = (inside (goal.at.offset_bounds-late-owed-in-loop-owed c).After-keep) in search rules
 
 pub bounds-late-owed-in-loop-owed : goal.bounds-late-owed-in-loop-owed
 bounds-late-owed-in-loop-owed c =
-    let inside : c.loop-owed.owed - 1 + c.root_at-root.result.parts < length c.keep.new.late =
-    owes-inside c.loop-owed.invariant.0 c.loop-owed-test.true c.root_at-root.result c.root_at-root.ensures c.keep.new.late c.keep.ensures c.put_root-behind.ensures in
-    inside
+    (inside (goal.at.bounds-late-owed-in-loop-owed c).After-keep)
 
 pub loop-owed-smaller : goal.loop-owed-smaller
 loop-owed-smaller c =
-    let here : let a = c.args in Whole (from a.arities.now a.bytes.now c.loop-owed.next) 1 =
     let a = c.args in
-    whole-first a.arities.now a.bytes.now c.loop-owed.next c.loop-owed.owed c.loop-owed-test.true c.loop-owed.invariant.0.going.whole in
-    let a = c.args in
-    omega (arith, root-inside a.arities.now a.bytes.now c.loop-owed.next c.root_at-root.result c.root_at-root.ensures here)
+    omega (arith, root-inside a.arities.now a.bytes.now c.loop-owed.next c.root_at-root.result c.root_at-root.ensures (here (goal.at.loop-owed-smaller c).In-loop-owed))
 
 pub loop-owed-preserved : goal.loop-owed-preserved
 loop-owed-preserved c =

@@ -9,6 +9,24 @@ use Rattle.term_words.specs.Records.{Whole, from}
 use Rattle.term_words.proofs.Laws.{root-inside, whole-first}
 use Rattle.term_words.proofs.Count.{Going, going_start, going-turn, going_end}
 use Rattle.term_words.proofs.terms.size_of.Goals as goal
+use Rattle.term_words.proofs.terms.size_of.Goals.{After-root_at-root, In-loop-owed}
+
+-- at a turn a whole term stands at `next`
+here : (c : In-loop-owed) → let a = c.args in Whole (from a.arities.now a.bytes.now c.loop-owed.next) 1
+here c =
+    let a = c.args in
+    whole-first a.arities.now a.bytes.now c.loop-owed.next c.loop-owed.owed c.loop-owed-test.true c.loop-owed.invariant.whole
+
+-- the root is inside the bytes
+bounds : (c : After-root_at-root) (here : let a = c.args in Whole (from a.arities.now a.bytes.now c.loop-owed.next) 1) → let a = c.args in (c.loop-owed.next < c.root_at-root.result.next) × (c.root_at-root.result.next ≤ length a.bytes.now)
+bounds c here =
+    let a = c.args in
+    root-inside a.arities.now a.bytes.now c.loop-owed.next c.root_at-root.result c.root_at-root.ensures here
+
+turned : (c : After-root_at-root) → let a = c.args in Going a.arities.now a.bytes.now a.p a.n (c.loop-owed.owed - 1 + c.root_at-root.result.parts) c.root_at-root.result.next (c.loop-owed.count + pick (eqb c.root_at-root.result.exception 0) 1 2)
+turned c =
+    let a = c.args in
+    going-turn a.arities.now a.bytes.now a.p a.n c.loop-owed.owed c.loop-owed.next c.loop-owed.count c.root_at-root.result c.loop-owed.invariant c.loop-owed-test.true c.root_at-root.ensures
 
 pub loop-owed-init : goal.loop-owed-init
 loop-owed-init c =
@@ -17,46 +35,28 @@ loop-owed-init c =
 
 pub root_at-root-requires : goal.root_at-root-requires
 root_at-root-requires c =
-    let here : let a = c.args in Whole (from a.arities.now a.bytes.now c.loop-owed.next) 1 =
-    let a = c.args in
-    whole-first a.arities.now a.bytes.now c.loop-owed.next c.loop-owed.owed c.loop-owed-test.true c.loop-owed.invariant.whole in
-    here
+    (here (goal.at.root_at-root-requires c).In-loop-owed)
 
 pub overflow_add-count : goal.overflow_add-count
 overflow_add-count c =
-    let turned : let a = c.args in Going a.arities.now a.bytes.now a.p a.n (c.loop-owed.owed - 1 + c.root_at-root.result.parts) c.root_at-root.result.next (c.loop-owed.count + pick (eqb c.root_at-root.result.exception 0) 1 2) =
-    let a = c.args in
-    going-turn a.arities.now a.bytes.now a.p a.n c.loop-owed.owed c.loop-owed.next c.loop-owed.count c.root_at-root.result c.loop-owed.invariant c.loop-owed-test.true c.root_at-root.ensures in
-    omega (arith, turned.words, c.word_count-count.ensures, c.requires.n_bound)
+    omega (arith, (turned (goal.at.overflow_add-count c).After-root_at-root).words, c.word_count-count.ensures, c.requires.n_bound)
 
 pub overflow_sub-owed : goal.overflow_sub-owed
 overflow_sub-owed c = let h = c.loop-owed-test.true in omega (arith, h)
 
 pub overflow_add-owed : goal.overflow_add-owed
 overflow_add-owed c =
-    let turned : let a = c.args in Going a.arities.now a.bytes.now a.p a.n (c.loop-owed.owed - 1 + c.root_at-root.result.parts) c.root_at-root.result.next (c.loop-owed.count + pick (eqb c.root_at-root.result.exception 0) 1 2) =
-    let a = c.args in
-    going-turn a.arities.now a.bytes.now a.p a.n c.loop-owed.owed c.loop-owed.next c.loop-owed.count c.root_at-root.result c.loop-owed.invariant c.loop-owed-test.true c.root_at-root.ensures in
-    omega (arith, turned.few, c.size_of_byte.ensures.value)
+    omega (arith, (turned (goal.at.overflow_add-owed c).After-root_at-root).few, c.size_of_byte.ensures.value)
 
 pub loop-owed-smaller : goal.loop-owed-smaller
 loop-owed-smaller c =
-    let bounds : let a = c.args in (c.loop-owed.next < c.root_at-root.result.next) × (c.root_at-root.result.next ≤ length a.bytes.now) =
-    let here : let a = c.args in Whole (from a.arities.now a.bytes.now c.loop-owed.next) 1 =
-    let a = c.args in
-    whole-first a.arities.now a.bytes.now c.loop-owed.next c.loop-owed.owed c.loop-owed-test.true c.loop-owed.invariant.whole in
-    let a = c.args in
-    root-inside a.arities.now a.bytes.now c.loop-owed.next c.root_at-root.result c.root_at-root.ensures here in
-    omega (arith, bounds)
+    omega (arith, (bounds (goal.at.loop-owed-smaller c).After-root_at-root (here (goal.at.loop-owed-smaller c).In-loop-owed)))
 
 pub loop-owed-preserved : goal.loop-owed-preserved
 loop-owed-preserved c =
-    let turned : let a = c.args in Going a.arities.now a.bytes.now a.p a.n (c.loop-owed.owed - 1 + c.root_at-root.result.parts) c.root_at-root.result.next (c.loop-owed.count + pick (eqb c.root_at-root.result.exception 0) 1 2) =
-    let a = c.args in
-    going-turn a.arities.now a.bytes.now a.p a.n c.loop-owed.owed c.loop-owed.next c.loop-owed.count c.root_at-root.result c.loop-owed.invariant c.loop-owed-test.true c.root_at-root.ensures in
     let a = c.args in
     subst (λ (i : ℕ). Going a.arities.now a.bytes.now a.p a.n (c.loop-owed.owed - 1 + i) c.root_at-root.result.next (c.loop-owed.count + c.word_count-count.result)) (sym c.size_of_byte.ensures.value)
-    (subst (λ (i : ℕ). Going a.arities.now a.bytes.now a.p a.n (c.loop-owed.owed - 1 + c.root_at-root.result.parts) c.root_at-root.result.next (c.loop-owed.count + i)) (sym c.word_count-count.ensures) turned)
+    (subst (λ (i : ℕ). Going a.arities.now a.bytes.now a.p a.n (c.loop-owed.owed - 1 + c.root_at-root.result.parts) c.root_at-root.result.next (c.loop-owed.count + i)) (sym c.word_count-count.ensures) (turned (goal.at.loop-owed-preserved c).After-root_at-root))
 
 pub returns : goal.returns
 returns c =
