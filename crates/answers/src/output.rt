@@ -1,96 +1,97 @@
 // The output, through a buffer that is written out when it is full: a line can have tens of thousands of numbers.
-ghost use Rattle.std.specs.Prelude.{◌≡◌, ◌+◌, ◌≤◌, length, IfOk};
+ghost use Rattle.std.specs.Prelude.{◌+◌, ◌≤◌, length, IfOk};
+ghost use Rattle.arrayvec.specs.ArrayVec.{array_vec_len};
 
+use arrayvec::ArrayVec;
 use bridge::report::Report;
 use std::io;
 
 // The room that every piece of text has.
 const PIECE: usize = 128;
 
-// Writes out what the buffer holds up to `at`.
-pub(crate) fn flush(rt: &impl Print, out: &[u8], at: usize) -> io::Result<()>
-    requires { at ≤ length out.now }
-{
-    rt.write_all(&out[0..at])
+// What is not written out yet.
+#[derive(Drop)]
+pub struct Output {
+    held: ArrayVec<u8, 65536>,
 }
 
-// The place for a piece of text: `at`, or the start where too little room is left and the buffer is written out.
-fn place(rt: &impl Print, out: &[u8], at: usize) -> io::Result<usize>
-    requires { (at ≤ length out.now) × (128 ≤ length out.now) }
-    ensures { IfOk result (λ n. n + 128 ≤ length out.now) }
-{
-    if out.len() - at < PIECE {
-        flush(rt, out, at)?;
-        return Ok(0);
+impl Output {
+    pub fn new() -> Self {
+        Output {
+            held: ArrayVec::new(),
+        }
     }
-    Ok(at)
-}
 
-// A short text.
-pub fn put_piece(rt: &impl Print, out: &mut [u8], at: usize, text: &[u8]) -> io::Result<usize>
-    requires { (at ≤ length out.old) × (128 ≤ length out.old) × (length text.now ≤ 128) }
-    ensures ends { IfOk result (λ n. n ≤ length out.new) }
-    ensures keeps_length { length out.new ≡ length out.old }
-{
-    let start = place(rt, out, at)?;
-    Ok(wording::put_text(out, start, text))
-}
-
-// A refusal's line.
-pub fn put_refused(rt: &impl Print, out: &mut [u8], at: usize, report: Report) -> io::Result<usize>
-    requires { (at ≤ length out.old) × (128 ≤ length out.old) }
-    ensures ends { IfOk result (λ n. n ≤ length out.new) }
-    ensures keeps_length { length out.new ≡ length out.old }
-{
-    let start = place(rt, out, at)?;
-    let said = wording::put_refusal(out, start, report);
-    Ok(wording::put_text(out, said, b"\n"))
-}
-
-// How both engines ended.
-pub fn put_engines(
-    rt: &impl Print,
-    out: &mut [u8],
-    at: usize,
-    evaluated: Report,
-    rewritten: Report,
-) -> io::Result<usize>
-    requires { (at ≤ length out.old) × (128 ≤ length out.old) }
-    ensures ends { IfOk result (λ n. n ≤ length out.new) }
-    ensures keeps_length { length out.new ≡ length out.old }
-{
-    let start = place(rt, out, at)?;
-    let opened = wording::put_text(out, start, b"ok ");
-    let first = wording::put_ending(out, opened, evaluated);
-    let parted = wording::put_text(out, first, b" ; ");
-    Ok(wording::put_ending(out, parted, rewritten))
-}
-
-// A word behind the sign that parts it from what stands before.
-fn put_word(rt: &impl Print, out: &mut [u8], at: usize, sign: &[u8], word: u16) -> io::Result<usize>
-    requires { (at ≤ length out.old) × (128 ≤ length out.old) × (length sign.now ≤ 3) }
-    ensures ends { IfOk result (λ n. n ≤ length out.new) }
-    ensures keeps_length { length out.new ≡ length out.old }
-{
-    let start = place(rt, out, at)?;
-    let signed = wording::put_text(out, start, sign);
-    Ok(wording::put_number(out, signed, word as u32))
-}
-
-// A list of words, with commas between them; "-" for none.
-pub fn put_words(rt: &impl Print, out: &mut [u8], at: usize, words: &[u16]) -> io::Result<usize>
-    requires { (at ≤ length out.old) × (128 ≤ length out.old) }
-    ensures ends { IfOk result (λ n. n ≤ length out.new) }
-    ensures keeps_length { length out.new ≡ length out.old }
-{
-    if words.len() == 0 {
-        return put_piece(rt, out, at, b" ; -");
+    // Writes out what is held.
+    pub fn flush(&mut self, rt: &impl Print) -> io::Result<()>
+        ensures { array_vec_len self.new.held ≤ 0 }
+    {
+        let written = rt.write_all(self.held.as_slice());
+        self.held.clear();
+        written
     }
-    let mut next = put_word(rt, out, at, b" ; ", words[0])?;
-    let mut i = 1;
-    while i < words.len() {
-        next = put_word(rt, out, next, b",", words[i])?;
-        i += 1;
+
+    // Makes room for a piece of text: what is held is written out where too little is left.
+    fn make_room(&mut self, rt: &impl Print) -> io::Result<()>
+        ensures { IfOk result (λ u. array_vec_len self.new.held + 128 ≤ 65536) }
+    {
+        if self.held.remaining_capacity() < PIECE {
+            self.flush(rt)?;
+        }
+        Ok(())
     }
-    Ok(next)
+
+    // A short text.
+    pub fn put_piece(&mut self, rt: &impl Print, text: &[u8]) -> io::Result<()>
+        requires { length text.now ≤ 128 }
+    {
+        self.make_room(rt)?;
+        wording::put_text(&mut self.held, text);
+        Ok(())
+    }
+
+    // A refusal's line.
+    pub fn put_refused(&mut self, rt: &impl Print, report: Report) -> io::Result<()> {
+        self.make_room(rt)?;
+        wording::put_refusal(&mut self.held, report);
+        wording::put_text(&mut self.held, b"\n");
+        Ok(())
+    }
+
+    // How both engines ended.
+    pub fn put_engines(
+        &mut self,
+        rt: &impl Print,
+        evaluated: Report,
+        rewritten: Report,
+    ) -> io::Result<()> {
+        self.make_room(rt)?;
+        wording::put_text(&mut self.held, b"ok ");
+        wording::put_ending(&mut self.held, evaluated);
+        wording::put_text(&mut self.held, b" ; ");
+        wording::put_ending(&mut self.held, rewritten);
+        Ok(())
+    }
+
+    // A word behind the sign that parts it from what stands before.
+    fn put_word(&mut self, rt: &impl Print, sign: &[u8], word: u16) -> io::Result<()>
+        requires { length sign.now ≤ 3 }
+    {
+        self.make_room(rt)?;
+        wording::put_text(&mut self.held, sign);
+        wording::put_number(&mut self.held, u32::from(word));
+        Ok(())
+    }
+
+    // A list of words, with commas between them; "-" for none.
+    pub fn put_words(&mut self, rt: &impl Print, words: &[u16]) -> io::Result<()> {
+        let Some((first, rest)) = words.split_first() else {
+            return self.put_piece(rt, b" ; -");
+        };
+        self.put_word(rt, b" ; ", *first)?;
+        for word in rest {
+            self.put_word(rt, b",", *word)?;
+        }
+        Ok(())
+    }
 }

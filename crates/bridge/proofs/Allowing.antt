@@ -14,8 +14,9 @@ use Rattle.theory.specs.Bytes.{program_of}
 use Rattle.theory.specs.Answers.{the_program, refusal, answer, Verdict, refuses, accepts, judged, evaluated, evaluate, Rewritten, unchanged, slices_long_enough, performed, rewritten_by, rewrite}
 use Rattle.checker.specs.declared.Checked.{Checked}
 use Rattle.bridge.specs.declared.report.Report.{Report}
-use Rattle.bridge.specs.Report.{refusal_report, answer_report, report_of, verdict_report}
-use Rattle.bridge.specs.Judged.{allowances, buffers_hold, limit_of}
+use Rattle.std.specs.Prelude.{Result, Ok, Err}
+use Rattle.bridge.specs.Report.{refusal_report, answer_report, report_of}
+use Rattle.bridge.specs.Judged.{judged_of, judged_as, allowances, buffers_hold, limit_of}
 use Rattle.bridge.specs.Accepted.{Accepts, own_words, Runs}
 use Rattle.bridge.specs.Calls.{Leaves}
 use Rattle.bridge.proofs.Judging.{both-judged}
@@ -51,30 +52,18 @@ by_most steps other most h k =
     sym (ap (λ (b : Bool). b && (leb 1 other && leb other most)) (le-leb steps 1000000 h) ∙ ap (λ (b : Bool). b && leb other most) (le-leb 1 other k))
 
 -- where neither refusal 12 nor 13 is due
-pub within-limits : (steps room first second : ℕ) → limit_of steps room first second ≡ 0 → (steps ≤ 1000000) × (1 ≤ room) × (room ≤ 4096) × (room ≤ first) × (room ≤ second)
+pub within-limits : (steps room first second : ℕ) → Ok tt ≡ limit_of steps room first second → (steps ≤ 1000000) × (1 ≤ room) × (room ≤ 4096) × (room ≤ first) × (room ≤ second)
 unfolding limit_of buffers_hold
 within-limits steps room first second e = go (allowances steps room 4096) refl (buffers_hold room first second) refl e
   where
-    go : (x : Bool) → allowances steps room 4096 ≡ x → (y : Bool) → buffers_hold room first second ≡ y → ◌≡◌ {A = ℕ} (pick x (pick y 0 13) 12) 0
+    go : (x : Bool) → allowances steps room 4096 ≡ x → (y : Bool) → buffers_hold room first second ≡ y → ◌≡◌ {A = Result (Unit {0}) Report} (Ok tt) (pick x (pick y (Ok tt) (Err (refusal_report 13 1 0))) (Err (refusal_report 12 1 0)))
         → (steps ≤ 1000000) × (1 ≤ room) × (room ≤ 4096) × (room ≤ first) × (room ≤ second)
     go true ex true ey z =
         let w = within-allowances steps room 4096 ex in
         let b = and-true (leb room first) (leb room second) ey in
         (w.0, w.1, w.2, leb-true room first b.0, leb-true room second b.1)
-    go true ex false ey z = absurd (omega (arith, z))
-    go false ex y ey z = absurd (omega (arith, z))
-
-pub barred : (steps room first second : ℕ) → allowances steps room 4096 ≡ false → 12 ≡ limit_of steps room first second
-unfolding limit_of
-barred steps room first second e = sym (ap (λ (b : Bool). pick b (pick (buffers_hold room first second) 0 13) 12) e)
-
-pub short : (steps room first second : ℕ) → allowances steps room 4096 ≡ true → buffers_hold room first second ≡ false → 13 ≡ limit_of steps room first second
-unfolding limit_of
-short steps room first second e k = sym (ap₂ (λ (b d : Bool). pick b (pick d 0 13) 12) e k)
-
-pub unlimited : (steps room first second : ℕ) → allowances steps room 4096 ≡ true → buffers_hold room first second ≡ true → 0 ≡ limit_of steps room first second
-unfolding limit_of
-unlimited steps room first second e k = sym (ap₂ (λ (b d : Bool). pick b (pick d 0 13) 12) e k)
+    go true ex false ey z = cc
+    go false ex y ey z = cc
 
 pub first_short : (room first second : ℕ) → first < room → false ≡ buffers_hold room first second
 unfolding buffers_hold
@@ -85,22 +74,22 @@ unfolding buffers_hold
 by-second room first second h = sym (ap (λ (b : Bool). b && leb room second) (le-leb room first h))
 
 -- REFUSALS 1 TO 11 AND 17
-module _ (p q : List ℕ) (r : Report) (e : r ≡ verdict_report (judged p q)) (h : r.number ≡ 0 → ⊥) where
+module _ (p q : List ℕ) (r : Report) (e : Err r ≡ judged_as p q) where
   pub evaluate-refused : (steps levels : ℕ) → r ≡ report_of (evaluate p q steps levels)
-  unfolding evaluate report_of verdict_report refusal_report
-  evaluate-refused steps levels = e ∙ by-verdict (judged p q) (λ z. h (ap (λ (x : Report). x.number) e ∙ z))
+  unfolding evaluate report_of judged_as
+  evaluate-refused steps levels = by-verdict (judged p q) e
     where
-      by-verdict : (v : Verdict) → ((verdict_report v).number ≡ 0 → ⊥) → verdict_report v ≡ report_of (evaluated steps levels v)
-      by-verdict (refuses n a place) k = refl
-      by-verdict (accepts s t) k = absurd (k refl)
+      by-verdict : (v : Verdict) → Err r ≡ judged_of v → r ≡ report_of (evaluated steps levels v)
+      by-verdict (refuses n a place) k = cc
+      by-verdict (accepts s t) k = cc
 
   pub rewrite-refused : (steps room : ℕ) (own first second : List ℕ) → Leaves (rewrite p q steps room own first second) r own first second
-  unfolding rewrite report_of verdict_report refusal_report
-  rewrite-refused steps room own first second = by-verdict (judged p q) e (λ z. h (ap (λ (x : Report). x.number) e ∙ z))
+  unfolding rewrite report_of judged_as
+  rewrite-refused steps room own first second = by-verdict (judged p q) e
     where
-      by-verdict : (v : Verdict) → r ≡ verdict_report v → ((verdict_report v).number ≡ 0 → ⊥) → Leaves (rewritten_by steps room own first second v) r own first second
-      by-verdict (refuses n a place) w k = record { report = w; own_is = refl; first_buffer = refl; second_buffer = refl }
-      by-verdict (accepts s t) w k = absurd (k refl)
+      by-verdict : (v : Verdict) → Err r ≡ judged_of v → Leaves (rewritten_by steps room own first second v) r own first second
+      by-verdict (refuses n a place) k = record { report = cc; own_is = refl; first_buffer = refl; second_buffer = refl }
+      by-verdict (accepts s t) k = cc
 
 module _ {p q : List ℕ} {c : Checked} (a : Accepts p q c) where
   is-judged : judged p q ≡ accepts a.checks.book a.term
@@ -178,21 +167,17 @@ module _ {p q : List ℕ} {c : Checked} (a : Accepts p q c) where
     held-allowed : Held → allowances steps room 4096 ≡ true
     held-allowed h = sym (by_most steps room 4096 h.0 h.1) ∙ le-leb room 4096 h.2
 
-    -- refusals 12 and 13 by their number: the own list is not asked for where a buffer is too short
-    pub rewrite-limited : (r : Report) (n : ℕ) → n ≡ limit_of steps room (length first) (length second) → (n ≡ 0 → ⊥) → r ≡ refusal_report n 1 0
-        → Leaves (rewrite p q steps room own first second) r own first second
+    -- refusals 12 and 13: the own list is not asked for where a buffer is too short
+    pub rewrite-limited : (r : Report) → Err r ≡ limit_of steps room (length first) (length second) → Leaves (rewrite p q steps room own first second) r own first second
     unfolding limit_of buffers_hold
-    rewrite-limited r n w h e = go (allowances steps room 4096) refl (buffers_hold room (length first) (length second)) refl
+    rewrite-limited r w = go (allowances steps room 4096) refl (buffers_hold room (length first) (length second)) refl w
       where
-        told : (m : ℕ) → n ≡ m → r ≡ refusal_report m 1 0
-        told m k = e ∙ ap (λ (x : ℕ). refusal_report x 1 0) k
-
-        go : (x : Bool) → allowances steps room 4096 ≡ x → (y : Bool) → buffers_hold room (length first) (length second) ≡ y → Leaves (rewrite p q steps room own first second) r own first second
-        go false ex y ey = rewrite-barred r ex (told 12 (w ∙ ap (λ (b : Bool). pick b (pick (buffers_hold room (length first) (length second)) 0 13) 12) ex))
-        go true ex false ey =
-            rewrite-short r ex (long_enough-is _ _ _ refl refl refl ∙ ap (λ (b : Bool). leb (length (own_words a.checks.book)) (length own) && b) ey ∙ never (leb (length (own_words a.checks.book)) (length own)))
-            (told 13 (w ∙ ap₂ (λ (b d : Bool). pick b (pick d 0 13) 12) ex ey))
-        go true ex true ey = absurd (h (w ∙ ap₂ (λ (b d : Bool). pick b (pick d 0 13) 12) ex ey))
+        go : (x : Bool) → allowances steps room 4096 ≡ x → (y : Bool) → buffers_hold room (length first) (length second) ≡ y
+            → ◌≡◌ {A = Result (Unit {0}) Report} (Err r) (pick x (pick y (Ok tt) (Err (refusal_report 13 1 0))) (Err (refusal_report 12 1 0))) → Leaves (rewrite p q steps room own first second) r own first second
+        go false ex y ey k = rewrite-barred r ex cc
+        go true ex false ey k =
+            rewrite-short r ex (long_enough-is _ _ _ refl refl refl ∙ ap (λ (b : Bool). leb (length (own_words a.checks.book)) (length own) && b) ey ∙ never (leb (length (own_words a.checks.book)) (length own))) cc
+        go true ex true ey k = cc
 
     pub rewrite-own-short : (r : Report) (own' : List ℕ) → Held → length own < length (own_words a.checks.book) → own' ≡ own → r ≡ refusal_report 13 1 0
         → Leaves (rewrite p q steps room own first second) r own' first second

@@ -17,15 +17,14 @@ use Rattle.theory.proofs.Bounds.{own-list-fits, question-fits}
 use Rattle.theory.proofs.Readability.{length-words}
 use Rattle.words.proofs.Writes.{length_over, take-over}
 use Rattle.checker.specs.declared.Checked.{Checked}
-use Rattle.checker.specs.Answer.{checked_of, table}
-use Rattle.bridge.specs.declared.lend.Written.{Written}
-use Rattle.bridge.specs.declared.lend.Written.TheVariants.{Count, Short}
-use Rattle.bridge.specs.Written.{written_in, filled_in}
+use Rattle.checker.specs.Answer.{table}
+use Rattle.std.specs.Prelude.{Option, Some, None}
+use Rattle.translator.specs.Answered.{answered, filled}
 use Rattle.bridge.specs.Accepted.{Checks, Accepts, Asks, own_words, question_words, standing_words, Lent}
 use Rattle.checker.proofs.Table.{table_is}
 
--- how many words they are
-own-short-enough : (p : List ℕ) (c : Checked) (a : Checks p c) → length (own_words a.book) ≤ 15504
+-- how many words they are: the evaluator's own list stands in an array of 15,504
+pub own-short-enough : (p : List ℕ) (c : Checked) (a : Checks p c) → length (own_words a.book) ≤ 15504
 unfolding own_words
 own-short-enough p c a = own-list-fits p a.book a.program_read
 
@@ -36,29 +35,25 @@ question-short-enough q c a =
     omega (arith, length-words (tree a.accepts.term), k)
 
 -- what the answer says, and what the slice holds
-module _ (ws d : List ℕ) (o : Written) (e : o ≡ written_in ws d) where
-  counted : (n : ℕ) → o ≡ Count n → (n ≡ length ws) × (length ws ≤ length d)
-  unfolding written_in
+module _ (ws d : List ℕ) (o : Option ℕ) (e : o ≡ answered ws d) where
+  counted : (n : ℕ) → o ≡ Some n → (n ≡ length ws) × (length ws ≤ length d)
   counted n k = by-fit (leb (length ws) (length d)) refl (sym k ∙ e)
     where
-      by-fit : (b : Bool) → leb (length ws) (length d) ≡ b → Count n ≡ pick b (Count (length ws)) Short → (n ≡ length ws) × (length ws ≤ length d)
+      by-fit : (b : Bool) → leb (length ws) (length d) ≡ b → Some n ≡ pick b (Some (length ws)) None → (n ≡ length ws) × (length ws ≤ length d)
       by-fit true h w = ((cc), leb-true (length ws) (length d) h)
       by-fit false h w = let z : ◌≡◌ {A = ℕ} 0 1 = cc in absurd (omega arith)
 
-  not-counted : o ≡ Short → length d < length ws
-  unfolding written_in
+  not-counted : o ≡ None → length d < length ws
   not-counted k = by-fit (leb (length ws) (length d)) refl (sym k ∙ e)
     where
-      by-fit : (b : Bool) → leb (length ws) (length d) ≡ b → Short ≡ pick b (Count (length ws)) Short → length d < length ws
+      by-fit : (b : Bool) → leb (length ws) (length d) ≡ b → None ≡ pick b (Some (length ws)) None → length d < length ws
       by-fit true h w = let z : ◌≡◌ {A = ℕ} 0 1 = cc in absurd (omega arith)
       by-fit false h w = leb-false (length ws) (length d) h
 
-filled-over : (ws d d' : List ℕ) → d' ≡ filled_in ws d → length ws ≤ length d → d' ≡ over ws d
-unfolding filled_in
+filled-over : (ws d d' : List ℕ) → d' ≡ filled ws d → length ws ≤ length d → d' ≡ over ws d
 filled-over ws d d' e h = e ∙ ap (λ (b : Bool). pick b (over ws d) d) (le-leb (length ws) (length d) h)
 
-filled_none : (ws d d' : List ℕ) → d' ≡ filled_in ws d → length d < length ws → d' ≡ d
-unfolding filled_in
+filled_none : (ws d d' : List ℕ) → d' ≡ filled ws d → length d < length ws → d' ≡ d
 filled_none ws d d' e h = e ∙ ap (λ (b : Bool). pick b (over ws d) d) (lt-leb (length ws) (length d) h)
 
 -- WHAT IS LENT OF THEM: the first n words of d' are ws
@@ -75,18 +70,14 @@ pub question-front : (q : List ℕ) (c : Checked) (a : Asks q c) (d' : List ℕ)
     → d' ≡ over (question_words a.accepts.term) (replicate 512 0) → Fronts (question_words a.accepts.term) d' n
 question-front q c a d' n en e = fronts (question_words a.accepts.term) (replicate 512 0) d' n en e (omega (arith, question-short-enough q c a, length-replicate {A = ℕ} 512 0))
 
-pub own-front : (ws d d' : List ℕ) (o : Written) (n : ℕ) → o ≡ written_in ws d → d' ≡ filled_in ws d → o ≡ Count n → Fronts ws d' n × (length ws ≤ length d) × (d' ≡ over ws d)
+pub own-front : (ws d d' : List ℕ) (o : Option ℕ) (n : ℕ) → o ≡ answered ws d → d' ≡ filled ws d → o ≡ Some n → Fronts ws d' n × (length ws ≤ length d) × (d' ≡ over ws d)
 own-front ws d d' o n eo e k =
     let m = counted ws d o eo n k in
     let f = filled-over ws d d' e m.1 in
     (fronts ws d d' n m.0 f m.1, m.1, f)
 
-pub own-unwritten : (ws d d' : List ℕ) (o : Written) → o ≡ written_in ws d → d' ≡ filled_in ws d → o ≡ Short → (length d < length ws) × (d' ≡ d)
+pub own-unwritten : (ws d d' : List ℕ) (o : Option ℕ) → o ≡ answered ws d → d' ≡ filled ws d → o ≡ None → (length d < length ws) × (d' ≡ d)
 own-unwritten ws d d' o eo e k = let m = not-counted ws d o eo k in (m, filled_none ws d d' e m)
-
--- the evaluator's own list stands in an array of 15,504 words
-pub never-short : (p : List ℕ) (c : Checked) (a : Checks p c) (o : Written) → o ≡ written_in (own_words a.book) (replicate 15504 0) → o ≡ Short → ⊥
-never-short p c a o e k = omega (arith, not-counted (own_words a.book) (replicate 15504 0) o e k, own-short-enough p c a, length-replicate {A = ℕ} 15504 0)
 
 -- WHAT AN ENGINE IS LENT
 abbrev pub asks : {p q : List ℕ} {c : Checked} → Accepts p q c → Asks q c
@@ -94,7 +85,6 @@ asks {p} a = record { program = p; accepts = a }
 
 -- the checker's table of arities
 pub arities-lent : (p : List ℕ) (c : Checked) (a : Checks p c) → c.arities ≡ table a.book.decls.arities
-unfolding checked_of
 arities-lent p c a = ap (λ (x : Checked). x.arities) a.answer
 
 pub standing-is : (st : List ℕ) → st ≡ stored_rules (standing (fun_of [])) → st ≡ standing_words

@@ -20,11 +20,12 @@ use Rattle.rewriter.specs.declared.ending.Said as rewriting
 use Rattle.rewriter.specs.declared.Answer as engine
 use Rattle.rewriter.specs.Meaning.{const_of, answer_of, said_of}
 use Rattle.rules.specs.Index.{index_of}
+use Rattle.rules.specs.declared.index.Span.{Span}
 use Rattle.rewriter.specs.Read.{answer_w, run_on}
 use Rattle.rewriter.proofs.OnBytes.{rewriter-on-bytes}
 use Rattle.bridge.specs.declared.report.Report.{Report}
-use Rattle.bridge.specs.Report.{base_number, ending_report, answer_report}
-use Rattle.bridge.specs.RewriterReport.{const_base, said_as, rewriting_report, said_amount, Fits}
+use Rattle.bridge.specs.Report.{base_number, const_number, ending_report, answer_report}
+use Rattle.bridge.specs.RewriterReport.{said_as, rewriting_report, said_amount, Fits}
 use Rattle.bridge.specs.Accepted.{question_words, standing_words, own_words, Lent}
 use Rattle.bridge.proofs.Lending.{arities-are}
 
@@ -102,7 +103,7 @@ rewriting-by a m c r e ec h = h ∙ ap (said_as m) ec ∙ sym (ap (λ (x : rewri
 pub amount-fits : (a : engine.Answer) (m : rewriting.Said) → a.said ≡ m → Fits a → said_amount m < 4294967296
 amount-fits a m e h = subst (λ (x : rewriting.Said). said_amount x < 4294967296) e h.amount
 
-value-const : (v : Val) → const_base (const_of v) ≡ base_number v
+value-const : (v : Val) → const_number (const_of v) ≡ base_number v
 value-const (base zero_b) = refl
 value-const (base true_b) = refl
 value-const (base false_b) = refl
@@ -133,7 +134,7 @@ rewriter-fits p s read room n t hr hn =
     by_said out_of_steps e = omega arith
     by_said too_big e = omega arith
 
-module _ {asked st own ar : List ℕ} (l : Lent asked st own ar) (si oi : List ℕ) (ei : si ≡ index_of st) (ej : oi ≡ index_of own) (room room' n n' : ℕ) (er : room' ≡ room) (en : n' ≡ n)
+module _ {asked st own ar : List ℕ} (l : Lent asked st own ar) (si oi : List Span) (ei : si ≡ index_of st) (ej : oi ≡ index_of own) (room room' n n' : ℕ) (er : room' ≡ room) (en : n' ≡ n)
     (f f' : List ℕ) (a : engine.Answer) (ea : a ≡ answer_w (run_on ar st own si oi asked room' n')) (ef : f' ≡ over (padded room' (run_on ar st own si oi asked room' n').term) f) where
   both : (a ≡ answer_of (rewriter (program_of l.book) room' n' l.term)) × (f' ≡ over (padded room' (last_words (program_of l.book) room' n' l.term)) f)
   unfolding question_words standing_words own_words

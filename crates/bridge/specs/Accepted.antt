@@ -10,15 +10,15 @@ use Rattle.theory.specs.Turns.{rewriter}
 use Rattle.theory.specs.Buffers.{over, padded}
 use Rattle.theory.specs.Answers.{last_words}
 use Rattle.checker.specs.declared.Checked.{Checked}
-use Rattle.checker.specs.Answer.{checked_of, table}
+use Rattle.checker.specs.Answer.{checked_as, table}
 use Rattle.bridge.specs.declared.report.Report.{Report}
 use Rattle.bridge.specs.Report.{answer_report}
 
--- the program p is accepted, and c is the answer on it
+-- the program p is accepted, and c is what is read of it
 pub record Checks (p : List ℕ) (c : Checked) : Type 0 where
   pub book : Book
   pub program_read : read_program p ≡ good book
-  pub answer : c ≡ checked_of (good book)
+  pub answer : c ≡ checked_as book
 
 -- and q is a question for it
 pub record Accepts (p q : List ℕ) (c : Checked) : Type 0 where

@@ -1,18 +1,13 @@
 -- The evaluator's own answer as a report.
-use Rattle.std.specs.Prelude.{ℕ, eqb}
-use Rattle.theory.specs.Syntax.{pick}
+use Rattle.std.specs.Prelude.{ℕ}
 use Rattle.evaluator.specs.declared.values.Ending.{Ending}
 use Rattle.evaluator.specs.declared.values.Ending.TheVariants.{Done, Raised, Stuck, Out, Deep}
 use Rattle.evaluator.specs.declared.values.Outcome.{Outcome}
 use Rattle.bridge.specs.declared.report.Report.{Report}
-use Rattle.bridge.specs.Report.{ending_report}
-
--- a value's constant, given by its word
-unfoldable pub word_base : ℕ → ℕ
-word_base w = pick (eqb w 1) 1 (pick (eqb w 3) 2 3)
+use Rattle.bridge.specs.Report.{const_number, ending_report}
 
 abbrev pub end_report : Ending → ℕ → Report
-end_report (Done v) c = ending_report 1 v.succs (word_base v.base) c
+end_report (Done v) c = ending_report 1 v.succs (const_number v.base) c
 end_report (Raised e) c = ending_report 2 e 0 c
 end_report (Stuck s) c = ending_report 3 s 0 c
 end_report Out c = ending_report 4 0 0 c

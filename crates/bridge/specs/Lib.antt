@@ -2,7 +2,6 @@
 pub mod Report
 pub mod Judged
 pub mod Accepted
-pub mod Written
 pub mod EvaluatorReport
 pub mod RewriterReport
 pub mod Calls

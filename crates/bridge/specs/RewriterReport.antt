@@ -1,21 +1,13 @@
 -- The rewriter's own answer as a report.
 use Rattle.std.specs.Prelude.{ℕ, ◌<◌}
-use Rattle.rewriter.specs.declared.ending.Base.{Base}
-use Rattle.rewriter.specs.declared.ending.Base.TheVariants as b
 use Rattle.rewriter.specs.declared.ending.Said.{Said}
 use Rattle.rewriter.specs.declared.ending.Said.TheVariants as said
 use Rattle.rewriter.specs.declared.Answer.{Answer}
 use Rattle.bridge.specs.declared.report.Report.{Report}
-use Rattle.bridge.specs.Report.{ending_report}
-
--- a value's constant
-abbrev pub const_base : Base → ℕ
-const_base b.Zero = 1
-const_base b.True = 2
-const_base b.False = 3
+use Rattle.bridge.specs.Report.{const_number, ending_report}
 
 abbrev pub said_as : Said → ℕ → Report
-said_as (said.Value k x) c = ending_report 1 k (const_base x) c
+said_as (said.Value k x) c = ending_report 1 k (const_number x) c
 said_as (said.Raised e) c = ending_report 2 e 0 c
 said_as (said.Stuck s) c = ending_report 3 s 0 c
 said_as said.Out c = ending_report 4 0 0 c

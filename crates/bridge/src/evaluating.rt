@@ -4,34 +4,21 @@ ghost use Rattle.theory.specs.Bytes.{program_of};
 ghost use Rattle.theory.specs.Cost.{evaluator};
 ghost use Rattle.bridge.specs.Report.{answer_report};
 ghost use Rattle.bridge.specs.Accepted.{Lent};
-ghost use Rattle.bridge.specs.EvaluatorReport.{word_base, outcome_report};
+ghost use Rattle.bridge.specs.EvaluatorReport.{outcome_report};
 
-use crate::report::{Report, ended};
+use crate::report::{Report, const_number, ended};
 use evaluator::values::{Ending, Outcome};
-use numbers::{size_of_u32, u32_of_word};
 use rules::index::index_of;
+use rules::lists::Lists;
 
-// The constant of a value, by its word.
-fn word_base(w: u16) -> u32
-    ensures { result ≡ word_base w }
-{
-    if w == 1 {
-        return 1;
-    }
-    if w == 3 {
-        return 2;
-    }
-    3
-}
-
+#[tactic(auto, unfolding(crate::specs::EvaluatorReport::outcome_report))]
 fn outcome_report(outcome: Outcome) -> Report
     ensures { result ≡ outcome_report outcome }
 {
-    let end = outcome.end;
     let steps = outcome.steps;
-    match end {
-        Ending::Done(v) => ended(1, v.succs, word_base(v.base), steps),
-        Ending::Raised(e) => ended(2, u32_of_word(e), 0, steps),
+    match outcome.end {
+        Ending::Done(v) => ended(1, v.succs, const_number(v.base), steps),
+        Ending::Raised(e) => ended(2, u32::from(e), 0, steps),
         Ending::Stuck(s) => ended(3, s, 0, steps),
         Ending::Out => ended(4, 0, 0, steps),
         Ending::Deep => ended(5, 0, 0, steps),
@@ -39,10 +26,10 @@ fn outcome_report(outcome: Outcome) -> Report
 }
 
 // The evaluator's answer.
-pub fn run_evaluator<'a>(
+pub fn run_evaluator(
     asked: &[u16],
-    standing: &'a [u16],
-    own: &'a [u16],
+    standing: &[u16],
+    own: &[u16],
     arities: &[u8],
     steps: u32,
     levels: u32,
@@ -52,15 +39,12 @@ pub fn run_evaluator<'a>(
 {
     let standing_index = index_of(standing);
     let own_index = index_of(own);
-    let outcome = evaluator::evaluate(
-        asked,
+    let lists = Lists {
+        arities,
         standing,
         own,
-        arities,
-        &standing_index[..],
-        &own_index[..],
-        size_of_u32(levels),
-        steps,
-    );
-    outcome_report(outcome)
+        standing_index: &standing_index,
+        own_index: &own_index,
+    };
+    outcome_report(evaluator::evaluate(asked, lists, levels as usize, steps))
 }

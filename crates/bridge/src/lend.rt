@@ -2,38 +2,25 @@
 ghost use Rattle.std.specs.Prelude.{◌≡◌, ◌≤◌, length};
 ghost use Rattle.theory.specs.Buffers.{over};
 ghost use Rattle.bridge.specs.Accepted.{Checks, Asks, own_words, question_words};
-ghost use Rattle.bridge.specs.Written.{written_in, filled_in};
+ghost use Rattle.translator.specs.Answered.{answered, filled};
 
 use checker::Checked;
-use translator::Own;
+use translator::Source;
 
-// So many words are written; or the slice is shorter, and nothing is.
-#[derive(Clone, Copy)]
-pub enum Written {
-    Count(usize),
-    Short,
-}
-
-// The own list, from the start of a slice where it fits.
-pub fn own_words(program: &[u8], checked: Checked, dst: &mut [u16]) -> Written
+// The own list, from the start of a slice, and how many words it is; none where the slice is shorter, and then nothing is written.
+pub fn own_words(program: &[u8], checked: Checked, dst: &mut [u16]) -> Option<usize>
     requires { Checks program.now checked }
-    ensures value { (a : Checks program.now checked) → result ≡ written_in (own_words a.book) dst.old }
-    ensures dst_after { (a : Checks program.now checked) → dst.new ≡ filled_in (own_words a.book) dst.old }
+    ensures value { (a : Checks program.now checked) → result ≡ answered (own_words a.book) dst.old }
+    ensures dst_after { (a : Checks program.now checked) → dst.new ≡ filled (own_words a.book) dst.old }
 {
-    let arities = checked.arities;
-    let openings = checked.openings;
-    let rules = checked.rules;
-    match translator::own_list(
-        &arities[..],
+    let source = Source {
+        arities: &checked.arities,
         program,
-        &openings[0..rules],
-        checked.exceptions,
-        checked.functions,
-        dst,
-    ) {
-        Own::Count(n) => Written::Count(n),
-        Own::Short => Written::Short,
-    }
+        openings: &checked.openings[0..checked.rules],
+        exceptions: checked.exceptions,
+        functions: checked.functions,
+    };
+    translator::own_list(&source, dst)
 }
 
 // The question's words, of which no accepted question has more than 512, and how many they are.
@@ -42,6 +29,5 @@ pub fn question_words(question: &[u8], checked: Checked, dst: &mut [u16]) -> usi
     ensures value { (a : Asks question.now checked) → result ≡ length (question_words a.accepts.term) }
     ensures dst_after { (a : Asks question.now checked) → dst.new ≡ over (question_words a.accepts.term) dst.old }
 {
-    let arities = checked.arities;
-    translator::question_words(&arities[..], question, dst)
+    translator::question_words(&checked.arities, question, dst)
 }

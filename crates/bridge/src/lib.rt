@@ -8,18 +8,18 @@ mod lend;
 pub mod report;
 mod rewriting;
 
-ghost use Rattle.std.specs.Prelude.{◌≡◌, ◌≤◌, length};
+ghost use Rattle.std.specs.Prelude.{◌≡◌, ◌<◌, ◌≤◌, IfSome, None, length};
 ghost use Rattle.theory.specs.Bytes.{program_of};
 ghost use Rattle.theory.specs.Cost.{evaluator};
 ghost use Rattle.theory.specs.Answers.{evaluate, rewrite};
 ghost use Rattle.bridge.specs.Report.{report_of, answer_report};
-ghost use Rattle.bridge.specs.Accepted.{Accepts, Listed, Runs};
+ghost use Rattle.bridge.specs.Accepted.{Accepts, Listed, Runs, own_words};
 ghost use Rattle.bridge.specs.Calls.{Leaves};
 
 use checker::Checked;
 use evaluating::run_evaluator;
 use judge::{allowed, judge, limit};
-use lend::{Written, own_words, question_words};
+use lend::{own_words, question_words};
 use report::{Report, refused};
 use rewriting::run_rewriter;
 
@@ -49,26 +49,27 @@ fn evaluate_listed(
     )
 }
 
-// The evaluator on an accepted program and question. No own list is longer than the array for it.
-fn evaluate_long(
+// The evaluator on an accepted program and question, where the own list fits an array of so many words; else none.
+fn evaluate_within<const WORDS: usize>(
     program: &[u8],
     question: &[u8],
     checked: Checked,
     steps: u32,
     levels: u32,
-) -> Report
+) -> Option<Report>
+    requires words_bound { WORDS ≤ 65536 }
     requires accepts { Accepts program.now question.now checked }
     requires steps_bound { (steps ≤ 1000000) × (levels ≤ 1000) }
-    ensures { (a : Accepts program.now question.now checked) → result ≡ answer_report (evaluator (program_of a.checks.book) levels steps a.term) }
+    ensures answers { (a : Accepts program.now question.now checked) → IfSome result (λ r. r ≡ answer_report (evaluator (program_of a.checks.book) levels steps a.term)) }
+    ensures short { (a : Accepts program.now question.now checked) → result ≡ None → WORDS < length (own_words a.checks.book) }
 {
-    let mut own = [0u16; 15504];
-    match own_words(program, checked, &mut own) {
-        Written::Count(m) => evaluate_listed(question, checked, &own[0..m], steps, levels),
-        Written::Short => refused(13, 1, 0),
-    }
+    let mut own = [0u16; WORDS];
+    let own = &mut own[..];
+    let n = own_words(program, checked, own)?;
+    Some(evaluate_listed(question, checked, &own[0..n], steps, levels))
 }
 
-// The same. The own list of most books fits a small array, which is sooner filled with zeros.
+// The same. The own list of most books fits the first array, which is sooner filled with zeros; no own list is longer than the second.
 fn evaluate_accepted(
     program: &[u8],
     question: &[u8],
@@ -80,10 +81,12 @@ fn evaluate_accepted(
     requires steps_bound { (steps ≤ 1000000) × (levels ≤ 1000) }
     ensures { (a : Accepts program.now question.now checked) → result ≡ answer_report (evaluator (program_of a.checks.book) levels steps a.term) }
 {
-    let mut own = [0u16; 1024];
-    match own_words(program, checked, &mut own) {
-        Written::Count(m) => evaluate_listed(question, checked, &own[0..m], steps, levels),
-        Written::Short => evaluate_long(program, question, checked, steps, levels),
+    match evaluate_within::<1024>(program, question, checked, steps, levels) {
+        Some(report) => report,
+        None => match evaluate_within::<15504>(program, question, checked, steps, levels) {
+            Some(report) => report,
+            None => refused(13, 1, 0),
+        },
     }
 }
 
@@ -91,15 +94,13 @@ fn evaluate_accepted(
 pub fn evaluate(program: &[u8], question: &[u8], steps: u32, levels: u32) -> Report
     ensures { result ≡ report_of (evaluate program.now question.now steps levels) }
 {
-    let judged = judge(program, question);
-    let refusal = judged.refusal;
-    if refusal.number != 0 {
-        return refusal;
-    }
+    let checked = match judge(program, question) {
+        Ok(checked) => checked,
+        Err(refusal) => return refusal,
+    };
     if !allowed(steps, levels, 1000) {
         return refused(12, 1, 0);
     }
-    let checked = judged.checked;
     evaluate_accepted(program, question, checked, steps, levels)
 }
 
@@ -149,16 +150,8 @@ fn rewrite_lent(
     ensures { Leaves (rewrite program.now question.now steps room own.old first.old second.old) result own.new first.new second.new }
 {
     match own_words(program, checked, own) {
-        Written::Count(m) => rewrite_listed(
-            question,
-            checked,
-            steps,
-            room,
-            &own[0..m],
-            first,
-            second,
-        ),
-        Written::Short => refused(13, 1, 0),
+        Some(m) => rewrite_listed(question, checked, steps, room, &own[0..m], first, second),
+        None => refused(13, 1, 0),
     }
 }
 
@@ -174,15 +167,12 @@ pub fn rewrite(
 ) -> Report
     ensures { Leaves (rewrite program.now question.now steps room own.old first.old second.old) result own.new first.new second.new }
 {
-    let judged = judge(program, question);
-    let refusal = judged.refusal;
-    if refusal.number != 0 {
-        return refusal;
+    let checked = match judge(program, question) {
+        Ok(checked) => checked,
+        Err(refusal) => return refusal,
+    };
+    match limit(steps, room, first.len(), second.len()) {
+        Ok(()) => rewrite_lent(program, question, checked, steps, room, own, first, second),
+        Err(refusal) => refusal,
     }
-    let number = limit(steps, room, first.len(), second.len());
-    if number != 0 {
-        return refused(number, 1, 0);
-    }
-    let checked = judged.checked;
-    rewrite_lent(program, question, checked, steps, room, own, first, second)
 }

@@ -1,6 +1,8 @@
 // A report: document 01's numbers for what a call answers. A number without meaning is 0.
 ghost use Rattle.std.specs.Prelude.{◌≡◌, ◌<◌};
-ghost use Rattle.bridge.specs.Report.{refusal_report, ending_report};
+ghost use Rattle.bridge.specs.Report.{const_number, refusal_report, ending_report};
+
+use words::base::Base;
 
 #[derive(Clone, Copy)]
 pub struct Report {
@@ -42,5 +44,16 @@ pub fn ended(ending: u32, amount: u32, base: u32, steps: u32) -> Report
         amount,
         base,
         steps,
+    }
+}
+
+// The constant of a value.
+pub(crate) fn const_number(base: Base) -> u32
+    ensures { result ≡ const_number base }
+{
+    match base {
+        Base::Zero => 1,
+        Base::True => 2,
+        Base::False => 3,
     }
 }

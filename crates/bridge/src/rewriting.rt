@@ -6,45 +6,34 @@ ghost use Rattle.theory.specs.Buffers.{over, padded};
 ghost use Rattle.theory.specs.Answers.{last_words};
 ghost use Rattle.bridge.specs.Report.{answer_report};
 ghost use Rattle.bridge.specs.Accepted.{Lent};
-ghost use Rattle.bridge.specs.RewriterReport.{const_base, rewriting_report, Fits};
+ghost use Rattle.bridge.specs.RewriterReport.{rewriting_report, Fits};
 
-use crate::report::{Report, ended};
-use numbers::{size_of_u32, u32_of_size, u32_of_word};
+use crate::report::{Report, const_number, ended};
 use rewriter::Answer;
-use rewriter::ending::{Base, Said};
+use rewriter::ending::Said;
 use rules::index::index_of;
+use rules::lists::Lists;
 
-// The constant of a value.
-fn const_base(base: Base) -> u32
-    ensures { result ≡ const_base base }
-{
-    match base {
-        Base::Zero => 1,
-        Base::True => 2,
-        Base::False => 3,
-    }
-}
-
+#[tactic(auto, unfolding(crate::specs::RewriterReport::rewriting_report))]
 fn answer_report(answer: Answer) -> Report
     requires { Fits answer }
     ensures { result ≡ rewriting_report answer }
 {
-    let said = answer.said;
-    let steps = u32_of_size(answer.steps);
-    match said {
-        Said::Value(k, base) => ended(1, u32_of_size(k), const_base(base), steps),
-        Said::Raised(e) => ended(2, u32_of_word(e), 0, steps),
-        Said::Stuck(s) => ended(3, u32_of_size(s), 0, steps),
+    let steps = answer.steps as u32;
+    match answer.said {
+        Said::Value(k, base) => ended(1, k as u32, const_number(base), steps),
+        Said::Raised(e) => ended(2, u32::from(e), 0, steps),
+        Said::Stuck(s) => ended(3, s as u32, 0, steps),
         Said::Out => ended(4, 0, 0, steps),
         Said::Big => ended(6, 0, 0, steps),
     }
 }
 
 // The rewriter's answer, and its two buffers afterwards.
-pub fn run_rewriter<'a>(
+pub fn run_rewriter(
     asked: &[u16],
-    standing: &'a [u16],
-    own: &'a [u16],
+    standing: &[u16],
+    own: &[u16],
     arities: &[u8],
     steps: u32,
     room: u32,
@@ -59,17 +48,13 @@ pub fn run_rewriter<'a>(
 {
     let standing_index = index_of(standing);
     let own_index = index_of(own);
-    let answer = rewriter::rewrite(
+    let lists = Lists {
         arities,
         standing,
         own,
-        &standing_index[..],
-        &own_index[..],
-        asked,
-        first,
-        second,
-        size_of_u32(steps),
-        size_of_u32(room),
-    );
+        standing_index: &standing_index,
+        own_index: &own_index,
+    };
+    let answer = rewriter::rewrite(lists, asked, first, second, steps as usize, room as usize);
     answer_report(answer)
 }

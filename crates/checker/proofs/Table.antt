@@ -10,10 +10,12 @@ use lib.Seq.{get_or-append-add}
 use borrow.Author.Tests.{ltb-true, ltb-false}
 use Rattle.theory.specs.Syntax.{Fun, pick}
 use Rattle.theory.specs.Builtins.{builtin_funs, nth_fun}
-use Rattle.theory.specs.Bytes.{good, Book, RuleAt, rule_count, opened_at, funs_of, nth_arity, Agrees, program_of, read_program}
+use Rattle.theory.specs.Bytes.{good, Book, RuleAt, rule_count, opened_at, funs_of, Agrees, program_of, read_program}
 use Rattle.theory.proofs.Lists.{copies-same}
 use Rattle.theory.proofs.Accepted.{program-on-bytes}
 use Rattle.checker.specs.Answer.{padded, arities_in, builtins, table}
+use Rattle.checker.proofs.node.Laws.{nth-get_d}
+use Rattle.checker.proofs.program.Theory.{pad-take, opened-many}
 use Rattle.checker.proofs.Callers.{functions-most}
 
 zeros-behind : (xs : List ℕ) (n k : ℕ) → get_or (xs ++ replicate n 0) k 0 ≡ get_or xs k 0
@@ -54,17 +56,9 @@ table-declared : (ns : List ℕ) → length ns ≤ 32 → (k : ℕ) → get_or (
 unfolding table
 table-declared ns h k = get_or-append-add builtins (padded 32 ns) k 0 ∙ padded-at 32 ns h k
 
-nth-same : (ns : List ℕ) (i : ℕ) → get_or ns i 0 ≡ nth_arity ns i
-nth-same [] i = refl
-nth-same (a ∷ ns) zero = refl
-nth-same (a ∷ ns) (suc i) = nth-same ns i
-
 -- the openings that are in use
 pub openings-used : (k : ℕ) (rs : List RuleAt) → rule_count rs ≤ k → take (rule_count rs) (padded k (opened_at rs)) ≡ opened_at rs
-unfolding padded
-openings-used k [] h = refl
-openings-used zero (r ∷ rs) h = absurd (omega arith)
-openings-used (suc k) (r ∷ rs) h = ap (r.opened ∷◌) (openings-used k rs (omega arith))
+openings-used k rs h = ap (λ (n : ℕ). take n (padded k (opened_at rs))) (sym (opened-many rs)) ∙ pad-take k (opened_at rs) (rw (opened-many rs) h)
 
 module _ (p : List ℕ) (s : Book) (read : read_program p ≡ good s) where
   pub table_is : (k : ℕ) → get_or (table s.decls.arities) k 0 ≡ ((program_of s).fun k).arity
@@ -90,5 +84,5 @@ module _ (p : List ℕ) (s : Book) (read : read_program p ≡ good s) where
   table-agrees =
       record {
         builtin = λ b h. table-builtin s.decls.arities b (omega arith);
-        declared = λ f h. table-declared s.decls.arities (functions-most p s read) f ∙ nth-same s.decls.arities f;
+        declared = λ f h. table-declared s.decls.arities (functions-most p s read) f ∙ sym (nth-get_d s.decls.arities f);
       }

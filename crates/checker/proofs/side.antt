@@ -1,4 +1,3 @@
--- The laws of a term's records: one step, the scan, and that it is the theory's.
-pub mod Steps
+-- The laws of a term's records: the scan, and that it is the theory's.
 pub mod Scan
 pub mod Theory

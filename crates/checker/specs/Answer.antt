@@ -1,10 +1,12 @@
--- What the two public calls answer: the number and the place of a refusal, or what was read.
-use Rattle.std.specs.Prelude.{ℕ, zero, suc, ◌-◌, List, [], ◌∷◌, ◌++◌, length, replicate}
-use Rattle.theory.specs.Bytes.{opened_at, Result, refused, good, Book, rule_count, Declared}
+-- What the two public calls answer: what was read, or the reason and the place of a refusal.
+use Rattle.std.specs.Prelude.{ℕ, zero, suc, ◌-◌, ◌≡◌, List, [], ◌∷◌, ◌++◌, length, replicate, Result, Ok, Err}
+use Rattle.theory.specs.Bytes.{opened_at, refused, good, Book, rule_count, Declared}
+use Rattle.theory.specs.Bytes
 use Rattle.theory.specs.Syntax.{Term, Fun}
 use Rattle.theory.specs.Builtins.{builtin_funs}
 use Rattle.checker.specs.declared.Checked.{Checked}
-use Rattle.checker.specs.declared.Verdict.{Verdict}
+use Rattle.checker.specs.declared.refusal.Refusal.{Refusal}
+use Rattle.checker.specs.Refusal.{number_of, reason_of, refusal_of}
 
 -- what is declared: so many exceptions, and functions of these arities
 abbrev pub declared : ℕ → List ℕ → Declared
@@ -28,17 +30,22 @@ builtins = arities_in builtin_funs ++ replicate (16 - length builtin_funs) 0
 unfoldable pub table : List ℕ → List ℕ
 table ns = builtins ++ padded 32 ns
 
--- a refused program: the number and the place, and zero elsewhere
-unfoldable pub refused_as : ℕ → ℕ → Checked
-refused_as n p = record { number = n; place = p; exceptions = 0; functions = 0; rules = 0; arities = replicate 48 0; openings = replicate 64 0 }
+-- what is read of a program: the declarations, the arities by function number, and where the rules open
+abbrev pub checked_as : Book → Checked
+checked_as s =
+    record { exceptions = s.decls.exceptions; functions = length s.decls.arities; rules = rule_count s.rules_at; arities = table s.decls.arities; openings = padded 64 (opened_at s.rules_at) }
 
--- the answer on a program. Refused: the number and the place, and zero elsewhere. Read: 0 and 0, the declarations, the arities by function number, and where the rules open
-unfoldable pub checked_of : Result Book → Checked
-checked_of (refused r) = refused_as r.number r.place
-checked_of (good s) =
-    record { number = 0; place = 0; exceptions = s.decls.exceptions; functions = length s.decls.arities; rules = rule_count s.rules_at; arities = table s.decls.arities; openings = padded 64 (opened_at s.rules_at) }
+-- the answer on a program
+unfoldable pub checked_of : Bytes.Result Book → Result Checked Refusal
+checked_of (refused r) = Err (refusal_of r)
+checked_of (good s) = Ok (checked_as s)
 
--- the answer on a question: the number and the place of its refusal, and 0 and 0 where it is read
-abbrev pub verdict_of : Result Term → Verdict
-verdict_of (refused r) = record { number = r.number; place = r.place }
-verdict_of (good t) = record { number = 0; place = 0 }
+-- the answer on a question
+abbrev pub verdict_of : Bytes.Result Term → Result (Unit {0}) Refusal
+verdict_of (refused r) = Err (refusal_of r)
+verdict_of (good t) = Ok tt
+
+-- the reasons have theory's numbers: where something is refused, the number of the reason is the number by which it is
+abbrev pub SameNumber : {A : Type 0} → Bytes.Result A → Type 0
+SameNumber (refused r) = number_of (reason_of r.number) ≡ r.number
+SameNumber (good s) = Unit {0}

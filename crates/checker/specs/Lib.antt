@@ -1,4 +1,5 @@
--- The definitions that contracts cite, by subject. Answer has what a caller cites.
+-- The definitions that contracts cite, by subject. Refusal and Answer have what a caller cites.
+pub mod Refusal
 pub mod Answer
 pub mod Node
 pub mod Side

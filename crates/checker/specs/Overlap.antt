@@ -1,8 +1,6 @@
 -- Overlap on the bytes of left sides. `Overlap` and `Bytes` of the theory say what is right; proofs/ shows that it is the same on what was read.
-use Rattle.std.specs.Prelude.{ℕ, zero, suc, ◌+◌, Bool, true, false, ◌||◌, List, [], ◌∷◌, ◌++◌, length, get_or, drop, eqb, leb}
+use Rattle.std.specs.Prelude.{ℕ, zero, suc, ◌+◌, Bool, true, false, ◌||◌, List, [], ◌∷◌, ◌++◌, length, get_or, drop, eqb, leb, Option, Some, None}
 use Rattle.theory.specs.Syntax.{choose}
-use Rattle.checker.specs.declared.overlap.Overlap.{Overlap}
-use Rattle.checker.specs.declared.overlap.Overlap.TheVariants.{At, Nowhere}
 
 -- the bytes that the pattern at the head takes: some succ, then a constant or a variable
 unfoldable pub pat_len : List ℕ → ℕ
@@ -36,6 +34,6 @@ module _ (ws : List ℕ) where
   any_clash ns (o ∷ os) q = clash_at ns o q || any_clash ns os q
 
   -- the first rule that clashes with an earlier one, of those that open at the places left; `before` has passed
-  unfoldable pub first_clash : List ℕ → List ℕ → List ℕ → Overlap
-  first_clash ns before [] = Nowhere
-  first_clash ns before (q ∷ qs) = choose (any_clash ns before q) (λ u. At q) (λ u. first_clash ns (before ++ (q ∷ [])) qs)
+  unfoldable pub first_clash : List ℕ → List ℕ → List ℕ → Option ℕ
+  first_clash ns before [] = None
+  first_clash ns before (q ∷ qs) = choose (any_clash ns before q) (λ u. Some q) (λ u. first_clash ns (before ++ (q ∷ [])) qs)

@@ -3,8 +3,6 @@ ghost use Rattle.std.specs.Prelude.{◌≡◌, [], ◌≤◌, ◌<◌};
 ghost use Rattle.theory.specs.Builtins.{nth_fun, builtin_funs};
 ghost use Rattle.checker.specs.Answer.{table};
 
-use numbers::size_of_byte;
-
 // Built-in b is function b; the declared functions' numbers begin at 16.
 const ARITIES: [u8; 48] = [
     2, 2, 1, 2, 2, 2, 2, 2, 2, 2, 2, 2, 0, 0, 0, 0, 0, 0, 0, 0, 0, 0, 0, 0, 0, 0, 0, 0, 0, 0, 0, 0,
@@ -14,6 +12,7 @@ const ARITIES: [u8; 48] = [
 // A program or a question may call the built-ins up to this one.
 pub const LAST_CALLED: usize = 10;
 
+#[tactic(auto, unfolding(crate::specs::Answer::table, crate::specs::Answer::padded))]
 pub fn start_arities() -> [u8; 48]
     ensures { result ≡ table [] }
 {
@@ -27,5 +26,5 @@ pub fn builtin_arity(b: usize) -> usize
     ensures small { result < 256 }
 {
     let arities = start_arities();
-    size_of_byte(arities[b])
+    usize::from(arities[b])
 }

@@ -2,52 +2,51 @@
 ghost use Rattle.std.specs.Prelude.{◌≡◌, [], ◌+◌, get_or, drop};
 ghost use Rattle.checker.specs.Overlap.{pat_len, heads_meet, args_meet, clash_at, any_clash, first_clash};
 
+use record::Kind;
+
+// The bytes of a succ, which a pattern follows, and of a variable, which has a body; the other patterns are one byte.
+const SUCC: u8 = Kind::Succ as u8;
+
+const VARIABLE: u8 = Kind::Variable as u8;
+
 // The place past the pattern that starts at `start`.
 fn past_pattern(bytes: &[u8], start: usize) -> usize
     ensures { result ≡ start + pat_len (drop start bytes.now) }
 {
-    let mut at = start;
-    while at < bytes.len() {
-        let b = bytes[at];
-        if b == 0x14 {
+    for at in start..bytes.len() {
+        if bytes[at] == VARIABLE {
             return at + 2;
         }
-        if b != 0x11 {
+        if bytes[at] != SUCC {
             return at + 1;
         }
-        at += 1;
     }
-    at
+    start.max(bytes.len())
 }
 
-// Whether the patterns that start at the two places have a common instance.
-fn patterns_meet(bytes: &[u8], first: usize, second: usize) -> bool
-    ensures { result ≡ heads_meet (drop first bytes.now) (drop second bytes.now) }
+// Whether the patterns that the two strings of bytes begin with have a common instance.
+fn patterns_meet(first: &[u8], second: &[u8]) -> bool
+    ensures { result ≡ heads_meet first.now second.now }
 {
-    let mut i = first;
-    let mut j = second;
-    while i < bytes.len() {
-        if bytes.len() <= j {
-            return true;
-        }
-        let a = bytes[i];
-        let b = bytes[j];
-        if a == 0x14 {
-            return true;
-        }
-        if b == 0x14 {
+    for (a, b) in first.iter().zip(second) {
+        if *a == VARIABLE || *b == VARIABLE {
             return true;
         }
         if a != b {
             return false;
         }
-        if a != 0x11 {
+        if *a != SUCC {
             return true;
         }
-        i += 1;
-        j += 1;
     }
     true
+}
+
+// The bytes from a place on, none past the end.
+fn bytes_from(bytes: &[u8], at: usize) -> &[u8]
+    ensures { result.now ≡ drop at bytes.now }
+{
+    &bytes[at.min(bytes.len())..]
 }
 
 // Whether `count` patterns from the two places on have common instances, one by one.
@@ -56,14 +55,12 @@ fn lefts_meet(bytes: &[u8], count: usize, first: usize, second: usize) -> bool
 {
     let mut i = first;
     let mut j = second;
-    let mut left = count;
-    while 0 < left {
-        if !patterns_meet(bytes, i, j) {
+    for _ in 0..count {
+        if !patterns_meet(bytes_from(bytes, i), bytes_from(bytes, j)) {
             return false;
         }
         i = past_pattern(bytes, i);
         j = past_pattern(bytes, j);
-        left -= 1;
     }
     true
 }
@@ -72,13 +69,11 @@ fn lefts_meet(bytes: &[u8], count: usize, first: usize, second: usize) -> bool
 fn byte_at(bytes: &[u8], at: usize) -> u8
     ensures { result ≡ get_or bytes.now at 0 }
 {
-    if at < bytes.len() {
-        return bytes[at];
-    }
-    0
+    bytes.get(at).copied().unwrap_or(0)
 }
 
 // Whether the rules opened at the two places are of one function and have left sides that meet.
+#[tactic(auto, unfolding(crate::specs::Overlap::clash_at))]
 fn clash(program: &[u8], arities: &[u8], first: usize, second: usize) -> bool
     ensures { result ≡ clash_at program.now arities.now first second }
 {
@@ -94,42 +89,27 @@ fn clash(program: &[u8], arities: &[u8], first: usize, second: usize) -> bool
     if f != g {
         return false;
     }
-    let n = byte_at(arities, g as usize);
-    lefts_meet(program, n as usize, first + 2, second + 2)
+    let n = byte_at(arities, usize::from(g));
+    lefts_meet(program, usize::from(n), first + 2, second + 2)
 }
 
 // Whether the rule opened at `second` clashes with one of these.
 fn clashes_with(program: &[u8], arities: &[u8], before: &[usize], second: usize) -> bool
     ensures { result ≡ any_clash program.now arities.now before.now second }
 {
-    let mut i = 0;
-    while i < before.len() {
-        if clash(program, arities, before[i], second) {
-            return true;
-        }
-        i += 1;
-    }
-    false
-}
-
-// A rule that clashes with an earlier one: where it opens.
-#[derive(Clone, Copy)]
-pub enum Overlap {
-    At(usize),
-    Nowhere,
+    before
+        .iter()
+        .any(|first| clash(program, arities, *first, second))
 }
 
 // Where the first rule opens that clashes with an earlier one, of the rules that open at these places.
-pub fn first_overlap(program: &[u8], arities: &[u8], openings: &[usize]) -> Overlap
+pub fn first_overlap(program: &[u8], arities: &[u8], openings: &[usize]) -> Option<usize>
     ensures { result ≡ first_clash program.now arities.now [] openings.now }
 {
-    let mut j = 0;
-    while j < openings.len() {
-        let q = openings[j];
-        if clashes_with(program, arities, &openings[0..j], q) {
-            return Overlap::At(q);
+    for (j, q) in openings.iter().enumerate() {
+        if clashes_with(program, arities, &openings[..j], *q) {
+            return Some(*q);
         }
-        j += 1;
     }
-    Overlap::Nowhere
+    None
 }

@@ -15,7 +15,8 @@ use Rattle.words.specs.Terms.{arity_of, skip_at}
 use Rattle.words.specs.Stands.{Stands}
 use Rattle.words.proofs.Skips.{skip-then}
 use Rattle.words.proofs.Stands.{stands-skip}
-use Rattle.evaluator.specs.Places.{end_or, place_past}
+use Rattle.std.specs.Prelude.{Option, unwrap_or}
+use Rattle.evaluator.specs.Places.{place_past}
 use Rattle.evaluator.specs.Outcomes.{base_word}
 
 -- the words of some trees stand in ws from the place a on
@@ -62,8 +63,8 @@ module _ (ws : List ℕ) where
   module _ (ks : List ℕ) (a : ℕ) (t : Tree) (h : Shaped (arity_of ks) t) (s : Stands ws a t) where
     pub past_one : place_past ks ws a 1 ≡ a + size t
     unfolding place_past skip_at
-    past_one = ap (end_or (length ws)) (stands-skip ks ws a t h s)
+    past_one = ap (λ (o : Option ℕ). unwrap_or o (length ws)) (stands-skip ks ws a t h s)
 
     pub past_two : (u : Tree) → Shaped (arity_of ks) u → Stands ws (a + size t) u → place_past ks ws a 2 ≡ a + size t + size u
     unfolding place_past skip_at
-    past_two u g r = ap (end_or (length ws)) (skip-then ks ws a (a + size t) 2 (omega arith) (stands-skip ks ws a t h s) ∙ stands-skip ks ws (a + size t) u g r)
+    past_two u g r = ap (λ (o : Option ℕ). unwrap_or o (length ws)) (skip-then ks ws a (a + size t) 2 (omega arith) (stands-skip ks ws a t h s) ∙ stands-skip ks ws (a + size t) u g r)

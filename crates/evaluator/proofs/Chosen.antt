@@ -2,7 +2,7 @@
 use mathlib.Core.Path.{◌≡◌, refl, sym, ap, ◌∙◌, subst}
 use mathlib.Core.Bool.{Bool, true, false}
 use mathlib.Core.List.{List, [], ◌∷◌, ◌++◌, append_assoc}
-use mathlib.Core.Option.{Option, none as nothing, some}
+use mathlib.Core.Option as maybe
 use Prim.Native.Nat.{ℕ, suc, ◌+◌, ◌-◌, ◌<◌, ◌≤◌}
 use native.Mathlib.Nat.{add-zero}
 use native.Mathlib.Omega.{arith}
@@ -18,10 +18,14 @@ use Rattle.theory.specs.Words.{words, all_words, Shaped, stored_rule, stored_rul
 use Rattle.theory.specs.Translation.{aux, tree, base_t, pat_t, pat_ts, own_rules, ◌⇒◌}
 use Rattle.theory.proofs.Readability.{length-words, length-wordss}
 use Rattle.words.specs.Stands.{Stands}
+use Rattle.std.specs.Prelude.{Option, Some, None}
+use Rattle.std.specs.Option.{option_or, IsSomeAnd}
+use Rattle.words.specs.Base.{named}
+use Rattle.words.specs.declared.base.Base.{Base as Const}
 use Rattle.evaluator.specs.declared.values.Value.{Value}
 use Rattle.evaluator.specs.declared.fitting.Found.{Found}
 use Rattle.evaluator.specs.Values.{none, nones}
-use Rattle.evaluator.specs.Fitting.{misfit, fits as fitsTo, fit_node, fit_of, fit_then, fits_of, or_else, rule_of, found_from}
+use Rattle.evaluator.specs.Fitting.{fits as fitsTo, fit_node, fit_of, fit_then, fits_of, rule_of, found_from}
 use Rattle.evaluator.specs.Outcomes.{base_word, value_of}
 use Rattle.evaluator.proofs.Fits.{fit-step, found-past, found-step}
 use Rattle.evaluator.proofs.TheoryRows.{fill}
@@ -59,73 +63,74 @@ fill_holds (v ∷ vs) arr i h =
     (fill-keeps vs (set arr i (value_of v)) (i + 1) i (omega arith) ∙ get_or-set_same arr i (value_of v) none (omega arith), fill_holds vs (set arr i (value_of v)) (i + 1) (omega (arith, e, h)))
 
 -- a fit, with the place after it
-abbrev FitMeets : ℕ → Found → Option Bindings → Type 0
-FitMeets a f nothing = f.ok ≡ false
-FitMeets a f (some θ) = (f.ok ≡ true) × (f.at ≡ a) × Binds f.b θ
+abbrev FitMeets : ℕ → Option Found → maybe.Option Bindings → Type 0
+FitMeets a f maybe.none = f ≡ None
+FitMeets a f (maybe.some θ) = IsSomeAnd f (λ x. (x.at ≡ a) × Binds x.b θ)
 
-fit-to : (a c : ℕ) (f : Found) (o : Option Bindings) → a ≡ c → FitMeets a f o → FitMeets c f o
+fit-to : (a c : ℕ) (f : Option Found) (o : maybe.Option Bindings) → a ≡ c → FitMeets a f o → FitMeets c f o
 fit-to a c f o e h = subst (λ (n : ℕ). FitMeets n f o) e h
 
 base-fit : (a : ℕ) (b : List Value) (θ : Bindings) → Binds b θ → (c d : Base)
-    → FitMeets (a + size (base_t c)) (fit_node 0 (base_word d) a b misfit (base_word c)) (pick (same_base c d) (some θ) nothing)
-base-fit a b θ s zero_b zero_b = (refl, refl, s)
+    → FitMeets (a + size (base_t c)) (fit_node 0 (named d) a b None (base_word c)) (pick (same_base c d) (maybe.some θ) maybe.none)
+base-fit a b θ s zero_b zero_b = (refl, s)
 base-fit a b θ s zero_b true_b = refl
 base-fit a b θ s zero_b false_b = refl
 base-fit a b θ s true_b zero_b = refl
-base-fit a b θ s true_b true_b = (refl, refl, s)
+base-fit a b θ s true_b true_b = (refl, s)
 base-fit a b θ s true_b false_b = refl
 base-fit a b θ s false_b zero_b = refl
 base-fit a b θ s false_b true_b = refl
-base-fit a b θ s false_b false_b = (refl, refl, s)
+base-fit a b θ s false_b false_b = (refl, s)
 
-base-misfit : (k x a : ℕ) (b : List Value) (more : Found) (c : Base) → (fit_node (suc k) x a b more (base_word c)).ok ≡ false
+base-misfit : (k : ℕ) (x : Const) (a : ℕ) (b : List Value) (more : Option Found) (c : Base) → fit_node (suc k) x a b more (base_word c) ≡ None
 base-misfit k x a b more zero_b = rw (eqb-suc-zero k)
 base-misfit k x a b more true_b = rw (eqb-suc-zero k)
 base-misfit k x a b more false_b = rw (eqb-suc-zero k)
 
-node-var : (k x a : ℕ) (b : List Value) (more : Found) (v : ℕ) → fit_node k x a b more (64 + v) ≡ fitsTo (a + 1) (set b v (record { succs = k; base = x }))
+node-var : (k : ℕ) (x : Const) (a : ℕ) (b : List Value) (more : Option Found) (v : ℕ) → fit_node k x a b more (64 + v) ≡ fitsTo (a + 1) (set b v (record { succs = k; base = x }))
 node-var k x a b more v =
     let e : 64 + v - 64 ≡ v = omega arith in
     rw (ne_eqb (64 + v) 0 (λ e. omega arith), ne_eqb (64 + v) 2 (λ e. omega arith), le-ltb (64 + v) 64 (omega arith), e)
 
 -- the rule found in the words is the rule found in the program
-abbrev pub FoundMeets : List ℕ → (ℕ → ℕ) → Found → Option TheoryFound → Type 0
-FoundMeets rs ar f nothing = f.ok ≡ false
-FoundMeets rs ar f (some g) = (f.ok ≡ true) × Stands rs f.at (tree g.body) × Shaped ar (tree g.body) × Binds f.b g.bound
+abbrev pub FoundMeets : List ℕ → (ℕ → ℕ) → Option Found → maybe.Option TheoryFound → Type 0
+FoundMeets rs ar f maybe.none = f ≡ None
+FoundMeets rs ar f (maybe.some g) = IsSomeAnd f (λ x. Stands rs x.at (tree g.body) × Shaped ar (tree g.body) × Binds x.b g.bound)
 
 module _ (rs : List ℕ) where
   fit-meets : (p : Pat) (v : Val) (a : ℕ) (b : List Value) (θ : Bindings) → Stands rs a (pat_t p) → NarrowPat p → Binds b θ
-      → FitMeets (a + size (pat_t p)) (fit_of rs (base_word (base_of v)) (height v) a b) (fit p v θ)
+      → FitMeets (a + size (pat_t p)) (fit_of rs (named (base_of v)) (height v) a b) (fit p v θ)
   unfolding fit_of
   fit-meets (pbase c) (base d) a b θ h n s = rw (base-is rs a c h) (base-fit a b θ s c d)
-  fit-meets (pbase c) (up v) a b θ h n s = rw (base-is rs a c h) (base-misfit (height v) (base_word (base_of v)) a b _ c)
+  fit-meets (pbase c) (up v) a b θ h n s = rw (base-is rs a c h) (base-misfit (height v) (named (base_of v)) a b _ c)
   fit-meets (psucc p) (base d) a b θ h n s = rw (root_is rs a 2 _ h)
   fit-meets (psucc p) (up v) a b θ h n s =
       let e : a + 1 + size (pat_t p) ≡ a + size (pat_t (psucc p)) = omega arith in
       rw (root_is rs a 2 _ h) (fit-to _ _ _ (fit p v θ) e (fit-meets p v (a + 1) b θ (first rs (a + 1) (pat_t p) [·] (parts rs a 2 _ h)) n s))
   fit-meets (pvar x) v a b θ h n s =
-      rw (fit-step rs (base_word (base_of v)) (height v) a b, var-is rs a x h, node-var (height v) (base_word (base_of v)) a b _ x)
-      (refl, refl, binds-set b θ x v n s)
+      rw (fit-step rs (named (base_of v)) (height v) a b, var-is rs a x h, node-var (height v) (named (base_of v)) a b _ x)
+      (refl, binds-set b θ x v n s)
 
   fits-meets : (ps : List Pat) (vs : List Val) (a i : ℕ) (arr b : List Value) (θ : Bindings) → StandAll rs a (pat_ts ps) → NarrowPats ps → Holds arr i vs → length ps ≡ length vs → Binds b θ
       → FitMeets (a + sizes (pat_ts ps)) (fits_of rs (length ps) a i arr b) (fits ps vs θ)
   unfolding fits_of
-  fits-meets [] [] a i arr b θ h n g e s = (refl, sym (add-zero a), s)
+  fits-meets [] [] a i arr b θ h n g e s = (sym (add-zero a), s)
   fits-meets [] (v ∷ vs) a i arr b θ h n g e s = absurd (omega (arith, e))
   fits-meets (p ∷ ps) [] a i arr b θ h n g e s = absurd (omega (arith, e))
   fits-meets (p ∷ ps) (v ∷ vs) a i arr b θ h n g e s =
       rw g.0
       (by (λ c η k. fits-meets ps vs (a + size (pat_t p)) (i + 1) arr c η (others rs a (pat_t p) (pat_ts ps) h) n.1 g.1 (omega (arith, e)) k)
-      (fit p v θ) (fit_of rs (base_word (base_of v)) (height v) a b) (fit-meets p v a b θ (first rs a (pat_t p) (pat_ts ps) h) n.0 s))
+      (fit p v θ) (fit_of rs (named (base_of v)) (height v) a b) (fit-meets p v a b θ (first rs a (pat_t p) (pat_ts ps) h) n.0 s))
     where
       by : ((c : List Value) (η : Bindings) → Binds c η → FitMeets (a + size (pat_t p) + sizes (pat_ts ps)) (fits_of rs (length ps) (a + size (pat_t p)) (i + 1) arr c) (fits ps vs η))
-          → (o : Option Bindings) (f : Found) → FitMeets (a + size (pat_t p)) f o
+          → (o : maybe.Option Bindings) (f : Option Found) → FitMeets (a + size (pat_t p)) f o
           → FitMeets (a + (size (pat_t p) + sizes (pat_ts ps))) (fit_then f (λ c d. fits_of rs (length ps) c (i + 1) arr d)) (and_then o (fits ps vs))
-      by more nothing f m = rw m
-      by more (some η) f m =
+      by more maybe.none f m = rw m
+      by more (maybe.some η) None m = absurd m
+      by more (maybe.some η) (Some x) m =
           let e' : a + size (pat_t p) + sizes (pat_ts ps) ≡ a + (size (pat_t p) + sizes (pat_ts ps)) = omega arith in
-          rw (m.0, m.1)
-          (fit-to _ _ _ (fits ps vs η) e' (more f.b η m.2))
+          rw m.0
+          (fit-to _ _ _ (fits ps vs η) e' (more x.b η m.1))
 
 -- the rules of a function: each has as many patterns as the function has arguments, and a right side in which each symbol has its parts
 abbrev pub GoodDefs : (ℕ → ℕ) → ℕ → List Def → Type 0
@@ -183,8 +188,9 @@ module _ (rs : List ℕ) (ar : ℕ → ℕ) (k n : ℕ) where
       (by r.right (fits d.left vs nothing_bound) _ (fits-meets rs d.left vs (a + 3) 0 arr nones nothing_bound r.patterns h.1 g (f ∙ sym e) binds-none)
       _ (chosen ds vs) (subst (λ (m : ℕ). FoundMeets rs ar (found_from rs m arr z) (chosen ds vs)) (sym f) (found-meets arr vs g e ds z h.3 r.next)))
     where
-      by : Stands rs (a + 2 + (1 + sizes (pat_ts d.left))) (tree d.right) → (o : Option Bindings) (x : Found) → FitMeets (a + 3 + sizes (pat_ts d.left)) x o
-          → (later : Found) (l : Option TheoryFound) → FoundMeets rs ar later l
-          → FoundMeets rs ar (or_else (fit_then x (λ c b. fitsTo (a + 2 + (1 + sizes (pat_ts d.left))) b)) later) (theory.or_else (found d.right o) l)
-      by right nothing x m later l q = rw m q
-      by right (some θ) x m later l q = rw m.0 (refl, right, h.2, m.2)
+      by : Stands rs (a + 2 + (1 + sizes (pat_ts d.left))) (tree d.right) → (o : maybe.Option Bindings) (f : Option Found) → FitMeets (a + 3 + sizes (pat_ts d.left)) f o
+          → (later : Option Found) (l : maybe.Option TheoryFound) → FoundMeets rs ar later l
+          → FoundMeets rs ar (option_or (fit_then f (λ c b. fitsTo (a + 2 + (1 + sizes (pat_ts d.left))) b)) later) (theory.or_else (found d.right o) l)
+      by right maybe.none f m later l q = rw m q
+      by right (maybe.some θ) None m later l q = absurd m
+      by right (maybe.some θ) (Some x) m later l q = (right, h.2, m.1)

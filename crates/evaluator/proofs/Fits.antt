@@ -8,92 +8,66 @@ use native.Mathlib.Numerals.{sub-one}
 use native.Mathlib.Omega.{arith}
 use lib.Dec.{eqb, ltb, eqb-suc-zero}
 use lib.ListN.{get_or, set, length, get_or-eq_default}
-use lib.Seq.{set_out}
+use Rattle.std.specs.Prelude.{Option, Some, None}
+use Rattle.std.specs.Option.{option_or}
+use Rattle.words.specs.Base.{word_of}
+use Rattle.words.specs.declared.base.Base.{Base}
 use Rattle.evaluator.specs.declared.values.Value.{Value}
 use Rattle.evaluator.specs.declared.fitting.Found.{Found}
 use Rattle.evaluator.specs.declared.fitting.Fitted.{Fitted}
 use Rattle.theory.specs.Syntax.{pick}
-use Rattle.evaluator.specs.Values.{none, nones}
-use Rattle.evaluator.specs.Fitting.{misfit, fits, fit_node, fit_of, no_fit, fit_word, fit_in_node, fit_in, fit_then, fit_at, fits_of, or_else, rule_of, next_rule, found_in, found_from}
+use Rattle.evaluator.specs.Values.{none}
+use Rattle.evaluator.specs.Fitting.{fits, fit_node, fit_of, fits_plainly, fits_binding, fit_word, fit_in_node, fit_in, bind, fit_then, fit_at, fits_of, rule_of, next_rule, found_in, found_from}
 
-pub fit-step : (rs : List ℕ) (x k a : ℕ) (b : List Value)
-    → fit_of rs x k a b ≡ fit_node k x a b (pick (eqb k 0) misfit (fit_of rs x (k - 1) (a + 1) b)) (get_or rs a 0)
+pub fit-step : (rs : List ℕ) (x : Base) (k a : ℕ) (b : List Value)
+    → fit_of rs x k a b ≡ fit_node k x a b (pick (eqb k 0) None (fit_of rs x (k - 1) (a + 1) b)) (get_or rs a 0)
 unfolding fit_of
 fit-step rs x zero a b = refl
 fit-step rs x (suc k) a b = rw (eqb-suc-zero k, sub-one (suc k))
 
-pick_same : (t : Bool) (f : Fitted) → pick t f f ≡ f
-pick_same true f = refl
-pick_same false f = refl
-
 -- a pattern's fit with the bindings before it: the variable that it binds is set
-abbrev placed : Fitted → List Value → Found
-placed f b = pick f.ok (fits f.at (set b f.slot f.rest)) misfit
+abbrev pub placed : Option Fitted → List Value → Option Found
+placed None b = None
+placed (Some f) b = fits f.at (bind b f.binding)
 
-node-placed : (k x a : ℕ) (b : List Value) (up : Fitted) (w : ℕ) → length b ≡ 8 → fit_node k x a b (placed up b) w ≡ placed (fit_in_node k x a up w) b
+node-placed : (k : ℕ) (x : Base) (a : ℕ) (b : List Value) (up : Option Fitted) (w : ℕ) → fit_node k x a b (placed up b) w ≡ placed (fit_in_node k x a up w) b
 unfolding fit_word
-node-placed k x a b up w h = go (eqb w 0) (eqb w 2) (ltb w 64) (eqb k 0) (eqb x w) refl refl
+node-placed k x a b up w = go (eqb w 0) (eqb w 2) (ltb w 64) (eqb k 0) (eqb (word_of x) w) refl refl
   where
-    -- slot 8 is none of the eight
-    same : set b 8 none ≡ b
-    same = set_out b 8 none (omega (arith, h))
-
     go : (p q r s t : Bool) → eqb w 0 ≡ p → eqb w 2 ≡ q
-        → pick p misfit (pick q (placed up b) (pick r (pick s (pick t (fits (a + 1) b) misfit) misfit) (fits (a + 1) (set b (w - 64) (record { succs = k; base = x })))))
-        ≡ placed (pick q up (pick p no_fit (pick r (pick s (pick t (record { ok = true; at = a + 1; slot = 8; rest = none }) no_fit) no_fit) (record { ok = true; at = a + 1; slot = w - 64; rest = record { succs = k; base = x } })))) b
+        → pick p None (pick q (placed up b) (pick r (pick s (pick t (fits (a + 1) b) None) None) (fits (a + 1) (set b (w - 64) (record { succs = k; base = x })))))
+        ≡ placed (pick q up (pick p None (pick r (pick s (pick t (fits_plainly (a + 1)) None) None) (fits_binding (a + 1) (w - 64) (record { succs = k; base = x }))))) b
     go true true r s t e f = absurd (omega (arith, eqb-true w 0 e, eqb-true w 2 f))
     go true false r s t e f = refl
     go false true r s t e f = refl
-    go false false true true true e f = rw same
+    go false false true true true e f = refl
     go false false true true false e f = refl
     go false false true false t e f = refl
     go false false false s t e f = refl
 
 -- fitting with the bindings is fitting without them, and then binding
-fit-placed : (rs : List ℕ) (x k a : ℕ) (b : List Value) → length b ≡ 8 → fit_of rs x k a b ≡ placed (fit_in rs x k a) b
+fit-placed : (rs : List ℕ) (x : Base) (k a : ℕ) (b : List Value) → fit_of rs x k a b ≡ placed (fit_in rs x k a) b
 unfolding fit_of fit_in
-fit-placed rs x zero a b h = node-placed 0 x a b no_fit (get_or rs a 0) h
-fit-placed rs x (suc k) a b h =
-    ap (λ (u : Found). fit_node (suc k) x a b u (get_or rs a 0)) (fit-placed rs x k (a + 1) b h)
-    ∙ node-placed (suc k) x a b (fit_in rs x k (a + 1)) (get_or rs a 0) h
+fit-placed rs x zero a b = node-placed 0 x a b None (get_or rs a 0)
+fit-placed rs x (suc k) a b =
+    ap (λ (up : Option Found). fit_node (suc k) x a b up (get_or rs a 0)) (fit-placed rs x k (a + 1) b)
+    ∙ node-placed (suc k) x a b (fit_in rs x k (a + 1)) (get_or rs a 0)
 
--- a pattern's last word: a variable, no symbol, and a constant over which succ is left, another constant, or the same
-module _ (k x a w : ℕ) where
-  pub word-var : 64 ≤ w → fit_word k x a w ≡ record { ok = true; at = a; slot = w - 64; rest = record { succs = k; base = x } }
-  unfolding fit_word
-  word-var h = rw (ne_eqb w 0 (λ e. omega arith), le-ltb w 64 h)
-
-  pub word_none : w ≡ 0 → fit_word k x a w ≡ no_fit
-  unfolding fit_word
-  word_none h = rw (eq-eqb w 0 h)
-
-  pub word-tall : w < 64 → (k ≡ 0 → ⊥) → fit_word k x a w ≡ no_fit
-  unfolding fit_word
-  word-tall h z = rw (lt-ltb w 64 h, ne_eqb k 0 z) (pick_same (eqb w 0) no_fit)
-
-  pub word-other : w < 64 → (x ≡ w → ⊥) → fit_word k x a w ≡ no_fit
-  unfolding fit_word
-  word-other h z = rw (lt-ltb w 64 h, ne_eqb x w z, pick_same (eqb k 0) no_fit) (pick_same (eqb w 0) no_fit)
-
-  pub word-base : w < 64 → (w ≡ 0 → ⊥) → k ≡ 0 → x ≡ w → fit_word k x a w ≡ record { ok = true; at = a; slot = 8; rest = none }
-  unfolding fit_word
-  word-base h n z e = rw (lt-ltb w 64 h, ne_eqb w 0 n, eq-eqb k 0 z, eq-eqb x w e)
-
-fit-in-step : (rs : List ℕ) (x k a : ℕ) → fit_in rs x k a ≡ fit_in_node k x a (pick (eqb k 0) no_fit (fit_in rs x (k - 1) (a + 1))) (get_or rs a 0)
+fit-in-step : (rs : List ℕ) (x : Base) (k a : ℕ) → fit_in rs x k a ≡ fit_in_node k x a (pick (eqb k 0) None (fit_in rs x (k - 1) (a + 1))) (get_or rs a 0)
 unfolding fit_in
 fit-in-step rs x zero a = refl
 fit-in-step rs x (suc k) a = rw (eqb-suc-zero k, sub-one (suc k))
 
 -- one step of a pattern's fit: no word is left, the last word, a succ where the value has none, a succ
-module _ (rs : List ℕ) (x k a : ℕ) where
-  pub fit-in-past : length rs ≤ a → fit_in rs x k a ≡ no_fit
+module _ (rs : List ℕ) (x : Base) (k a : ℕ) where
+  pub fit-in-past : length rs ≤ a → fit_in rs x k a ≡ None
   unfolding fit_word
   fit-in-past h = rw (fit-in-step rs x k a, get_or-eq_default rs 0 h)
 
   pub fit-in-word : (get_or rs a 0 ≡ 2 → ⊥) → fit_in rs x k a ≡ fit_word k x (a + 1) (get_or rs a 0)
   fit-in-word h = rw (fit-in-step rs x k a, ne_eqb (get_or rs a 0) 2 h)
 
-  pub fit-in-stop : get_or rs a 0 ≡ 2 → k ≡ 0 → fit_in rs x k a ≡ no_fit
+  pub fit-in-stop : get_or rs a 0 ≡ 2 → k ≡ 0 → fit_in rs x k a ≡ None
   fit-in-stop h z = rw (fit-in-step rs x k a, eq-eqb (get_or rs a 0) 2 h, eq-eqb k 0 z)
 
   pub fit-in-succ : get_or rs a 0 ≡ 2 → (k ≡ 0 → ⊥) → fit_in rs x k a ≡ fit_in rs x (k - 1) (a + 1)
@@ -112,52 +86,43 @@ found-enough rs n vs zero zero a h g = refl
 found-enough rs n vs zero (suc d) a h g = rw (le-ltb a (length rs) (omega arith))
 found-enough rs n vs (suc c) zero a h g = rw (le-ltb a (length rs) (omega arith))
 found-enough rs n vs (suc c) (suc d) a h g =
-    ap (λ (f : Found). pick (ltb a (length rs)) (or_else (rule_of rs n vs a) f) misfit) (found-enough rs n vs c d (next_rule rs a) (omega arith) (omega arith))
+    ap (λ (f : Option Found). pick (ltb a (length rs)) (option_or (rule_of rs n vs a) f) None) (found-enough rs n vs c d (next_rule rs a) (omega arith) (omega arith))
 
 module _ (rs : List ℕ) (n : ℕ) (vs : List Value) (a : ℕ) where
   -- no rule is left
-  pub found-past : length rs ≤ a → misfit ≡ found_from rs n vs a
+  pub found-past : length rs ≤ a → None ≡ found_from rs n vs a
   unfolding found_from found_in
   found-past h = let e : length rs - a ≡ 0 = omega arith in rw e
 
   -- the rule at a, or the first behind it
-  pub found-step : a < length rs → found_from rs n vs a ≡ or_else (rule_of rs n vs a) (found_from rs n vs (next_rule rs a))
+  pub found-step : a < length rs → found_from rs n vs a ≡ option_or (rule_of rs n vs a) (found_from rs n vs (next_rule rs a))
   unfolding found_from found_in
   found-step h =
       let e : length rs - a ≡ suc (length rs - a - 1) = omega arith in
       rw (e, lt-ltb a (length rs) h)
-      (ap (or_else (rule_of rs n vs a)) (found-enough rs n vs (length rs - a - 1) (length rs - next_rule rs a) (next_rule rs a) (omega arith) (omega arith)))
+      (ap (option_or (rule_of rs n vs a)) (found-enough rs n vs (length rs - a - 1) (length rs - next_rule rs a) (next_rule rs a) (omega arith) (omega arith)))
 
 -- the values are at an end
 pub fits-end : (rs : List ℕ) (n a i : ℕ) (vs b : List Value) → n ≤ i → fits_of rs (n - i) a i vs b ≡ fits a b
 unfolding fits_of
 fits-end rs n a i vs b h = let e : n - i ≡ 0 = omega arith in rw e
 
--- the pattern for value number i of n, by its fit f: the patterns behind it are left, or nothing fits
-module _ (rs : List ℕ) (n a i : ℕ) (vs b : List Value) {v : Value} {f : Fitted} (h : i < n) (eight : length b ≡ 8) (hv : v ≡ get_or vs i none) (hf : f ≡ fit_in rs v.base v.succs a) where
-  this : fit_at rs (get_or vs i none) a b ≡ placed f b
-  this = rw (← hv, fit-placed rs v.base v.succs a b eight, ← hf)
+-- the pattern for value number i of n, by its fit: the patterns behind it are left, or nothing fits
+module _ (rs : List ℕ) (n a i : ℕ) (vs b : List Value) {v : Value} {o : Option Fitted} (h : i < n) (hv : v ≡ get_or vs i none) (ho : o ≡ fit_in rs v.base v.succs a) where
+  this : fit_at rs (get_or vs i none) a b ≡ placed o b
+  this = rw (← hv, fit-placed rs v.base v.succs a b, ← ho)
 
-  pub fits_more : f.ok ≡ true → fits_of rs (n - i) a i vs b ≡ fits_of rs (n - (i + 1)) f.at (i + 1) vs (set b f.slot f.rest)
-  fits_more o =
-      let e : n - i - 1 ≡ n - (i + 1) = omega arith in
-      rw (fits-step rs (n - i) a i vs b (λ z. omega arith), this, o, e)
+  pub fits_more : {f : Fitted} → o ≡ Some f → fits_of rs (n - i) a i vs b ≡ fits_of rs (n - (i + 1)) f.at (i + 1) vs (bind b f.binding)
+  fits_more e =
+      let m : n - i - 1 ≡ n - (i + 1) = omega arith in
+      rw (fits-step rs (n - i) a i vs b (λ z. omega arith), this, e, m)
 
-  pub fits-stop : f.ok ≡ false → fits_of rs (n - i) a i vs b ≡ misfit
-  fits-stop o = rw (fits-step rs (n - i) a i vs b (λ z. omega arith), this, o)
+  pub fits-stop : o ≡ None → fits_of rs (n - i) a i vs b ≡ None
+  fits-stop e = rw (fits-step rs (n - i) a i vs b (λ z. omega arith), this, e)
 
-module _ (rs : List ℕ) (n : ℕ) (vs : List Value) (a : ℕ) {f : Found} (hf : f ≡ fits_of rs n (a + 3) 0 vs nones) where
-  pub rule_fits : {c : ℕ} → f.ok ≡ true → c ≡ get_or rs a 0 → fits (a + 2 + c) f.b ≡ rule_of rs n vs a
-  unfolding rule_of
-  rule_fits o hc = rw (← hf, o, hc)
+module _ (rs : List ℕ) (n : ℕ) (vs : List Value) (a : ℕ) {o : Option Found} (h : a < length rs) (ho : o ≡ rule_of rs n vs a) where
+  pub found_here : {f : Found} → o ≡ Some f → Some f ≡ found_from rs n vs a
+  found_here e = rw (found-step rs n vs a h, ← ho, e)
 
-  pub rule-stop : {x : Found} → f.ok ≡ false → x ≡ misfit → x ≡ rule_of rs n vs a
-  unfolding rule_of
-  rule-stop o hx = rw (← hf, o) hx
-
-module _ (rs : List ℕ) (n : ℕ) (vs : List Value) (a : ℕ) {f : Found} (h : a < length rs) (hf : f ≡ rule_of rs n vs a) where
-  pub found_here : f.ok ≡ true → f ≡ found_from rs n vs a
-  found_here o = rw (found-step rs n vs a h, ← hf, o)
-
-  pub found-later : {m k : ℕ} → f.ok ≡ false → m ≡ get_or rs a 0 → k ≡ get_or rs (a + 1) 0 → found_from rs n vs a ≡ found_from rs n vs (a + 2 + m + k)
-  found-later o hm hk = rw (found-step rs n vs a h, ← hf, o, hm, hk)
+  pub found-later : {m k : ℕ} → o ≡ None → m ≡ get_or rs a 0 → k ≡ get_or rs (a + 1) 0 → found_from rs n vs a ≡ found_from rs n vs (a + 2 + m + k)
+  found-later e hm hk = rw (found-step rs n vs a h, ← ho, e, hm, hk)

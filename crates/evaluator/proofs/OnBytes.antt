@@ -17,6 +17,7 @@ use Rattle.theory.specs.Bytes.{Book, good, funs_of, read_program, program_of, re
 use Rattle.theory.proofs.Shape.{parts-aux, tree-shaped}
 use Rattle.theory.proofs.Accepted.{read-on-bytes, length-funs}
 use Rattle.words.specs.Terms.{arity_of}
+use Rattle.rules.specs.declared.index.Span.{Span}
 use Rattle.rules.specs.Index.{index_of}
 use Rattle.rules.proofs.Ranges.{standing-range, own_range, nth_past}
 use Rattle.rules.proofs.Program.{arity-is}
@@ -91,7 +92,7 @@ module _ (n : ℕ) (fs : List Fun) (exceptions : n ≤ 16) (functions : length f
 
 -- for a program and a question that are not refused
 pub evaluator-on-bytes : (p q : List ℕ) (s : Book) (t : Term) → read_program p ≡ good s → read_question s.decls q ≡ good t
-    → (ws stands own ks si oi : List ℕ) → ws ≡ words (tree t) → stands ≡ stored_rules (standing (fun_of [])) → own ≡ stored_rules (own_list (program_of s))
+    → (ws stands own ks : List ℕ) (si oi : List Span) → ws ≡ words (tree t) → stands ≡ stored_rules (standing (fun_of [])) → own ≡ stored_rules (own_list (program_of s))
     → ((k : ℕ) → get_or ks k 0 ≡ ((program_of s).fun k).arity) → si ≡ index_of stands → oi ≡ index_of own → (levels steps : ℕ)
     → evaluated ws stands own ks si oi levels steps ≡ outcome_of (evaluator (program_of s) levels steps t)
 evaluator-on-bytes p q s t ep eq ws stands own ks si oi hw hs ho hk hi hj levels steps =

@@ -2,14 +2,14 @@
 use mathlib.Core.Path.{◌≡◌, refl, sym, ap, ◌∙◌, subst}
 use mathlib.Core.Bool.{false}
 use mathlib.Core.List.{List}
-use mathlib.Core.Option.{Option, none as nothing, some}
+use mathlib.Core.Option as maybe
 use Prim.Native.Nat.{ℕ, zero, suc, ◌+◌, ◌-◌, ◌<◌, ◌≤◌}
 use native.Mathlib.Omega.{arith}
 use lib.Dec.{eqb}
 use lib.ListN.{length, get_or, set}
 use borrow.Author.Tests.{lt-ltb, le-ltb, le-leb, ne_eqb}
 use Rattle.theory.proofs.Shape.{len-trees}
-use Rattle.theory.specs.Syntax.{Base, zero_b, true_b, false_b, Val, Term, const, succ, tvar, raise, handle, cond, call, Terms, tnil, tcons, many, Program, Bindings, Found as TheoryFound, chosen, pick}
+use Rattle.theory.specs.Syntax.{Base, zero_b, true_b, false_b, Val, Term, const, succ, tvar, raise, handle, cond, call, Terms, tnil, tcons, many, Program, Bindings, Found as TheoryFound, chosen}
 use Rattle.theory.specs.Cost.{Args, vals, ended}
 use Rattle.theory.specs.Budget.{Remaining, ends_leaving, ran_out, then_with, PayingEv, pay_args, body_pays, call_pays, pay_eval}
 use Rattle.theory.specs.Tree.{[·], size}
@@ -17,28 +17,30 @@ use Rattle.theory.specs.Words.{Shaped, Shapeds}
 use Rattle.theory.specs.Translation.{aux, exn_t, tree, trees}
 use Rattle.words.specs.Terms.{arity_of}
 use Rattle.words.specs.Stands.{Stands}
+use Rattle.std.specs.Prelude.{Option, Some, None}
+use Rattle.std.specs.Prelude.{Result, Ok, Err}
+use Rattle.words.specs.Base.{named}
+use Rattle.rules.specs.declared.index.Span.{Span}
 use Rattle.evaluator.specs.declared.values.Value.{Value}
-use Rattle.evaluator.specs.declared.values.Ending.TheVariants.{Stuck}
 use Rattle.evaluator.specs.declared.values.Answer.{Answer}
-use Rattle.evaluator.specs.declared.rows.Turn.{Turn}
-use Rattle.evaluator.specs.declared.rows.Turn.TheVariants.{Ends}
 use Rattle.evaluator.specs.declared.evaluation.Listed.{Listed}
+use Rattle.evaluator.specs.declared.evaluation.Entered.{Entered}
 use Rattle.evaluator.specs.declared.fitting.Found.{Found}
 use Rattle.evaluator.specs.declared.places.Kind.{Kind}
 use Rattle.evaluator.specs.declared.places.Kind.TheVariants.{Data, Var, Raise, Part, Call}
 use Rattle.evaluator.specs.declared.places.Op.TheVariants.{Succ, Handle, If}
-use Rattle.evaluator.specs.Values.{answer, nones}
+use Rattle.evaluator.specs.Values.{nones}
 use Rattle.evaluator.specs.Places.{kind_of, arguments_of}
-use Rattle.evaluator.specs.Rows.{go_of}
+use Rattle.evaluator.specs.Rows.{left_of}
 use Rattle.evaluator.specs.Fitting.{rules_of, found_from}
-use Rattle.evaluator.specs.Evaluation.{Evaluator, turn_then, list_of, enter_then, entered_of, body_of, call_of, node, ev}
+use Rattle.evaluator.specs.Evaluation.{Evaluator, answer_then, result_then, list_of, found_then, entered_of, body_of, call_of, node, ev}
 use Rattle.evaluator.specs.Outcomes.{base_word, value_of}
-use Rattle.evaluator.proofs.TheoryRows.{code, pay-row, go-row, succ-row, handle-row, cond-row, fill, ListMeets, arg-row}
+use Rattle.evaluator.proofs.TheoryRows.{code, pay-row, left-row, succ-row, handle-row, cond-row, fill, ListMeets, arg-row}
 use Rattle.evaluator.proofs.Among.{StandAll, root_is, var-is, base-is, parts, first, others, past_one, past_two}
 use Rattle.evaluator.proofs.Chosen.{Binds, FoundMeets}
 
 -- what a word is, at words that are not literals
-kind-const : (b : Base) → kind_of (base_word b) ≡ Data (base_word b)
+kind-const : (b : Base) → kind_of (base_word b) ≡ Data (named b)
 unfolding kind_of
 kind-const zero_b = refl
 kind-const true_b = refl
@@ -97,7 +99,7 @@ module _ (ks ws : List ℕ) (b : List Value) (θ : Bindings) (E : Evaluator) (ev
       (arg-row i arr (many ts) _ (pay_args evI θ ts) (λ v q. list-meets ts (a + size (tree t)) (i + 1) (set arr i (value_of v)) q g.1 (others ws a (tree t) (trees ts) h)) (evI θ t p))
 
 -- the right side of the rule that fits, where the rules' words find what the program finds
-module _ (P : Program) (standing own ks si oi : List ℕ) where
+module _ (P : Program) (standing own ks : List ℕ) (si oi : List Span) where
   abbrev list : ℕ → List ℕ
   list k = rules_of standing own si oi k (P.fun k).arity
 
@@ -114,24 +116,24 @@ module _ (P : Program) (standing own ks si oi : List ℕ) where
 
     module _ (E : Evaluator) (evI : PayingEv)
         (same : (ws : List ℕ) (t : Term) (a : ℕ) (b : List Value) (θ : Bindings) (p : ℕ) → Shaped (arity_of ks) (tree t) → Stands ws a (tree t) → Binds b θ → E ws b a p ≡ code (evI θ t p)) (k : ℕ) where
-      found-row : (f : Found) (o : Option TheoryFound) (p : ℕ) → FoundMeets (list k) (arity_of ks) f o
-          → turn_then (pick f.ok (go_of 1 p 0) (Ends (answer (Stuck 0) p))) (λ n q. E (list k) f.b f.at q) ≡ code (body_pays evI o p)
-      unfolding turn_then
-      found-row f nothing p h = rw h
-      found-row f (some g) p h =
-          rw h.0
-          (go-row 1 p 0 (λ n q. E (list k) f.b f.at q) (evI g.bound g.body) (λ q. same (list k) g.body f.at f.b g.bound q h.2 h.1 h.3))
+      found-row : (f : Option Found) (o : maybe.Option TheoryFound) (p : ℕ) → FoundMeets (list k) (arity_of ks) f o → body_of (list k) E (found_then f p) ≡ code (body_pays evI o p)
+      unfolding body_of answer_then result_then
+      found-row f maybe.none p h = rw h
+      found-row None (maybe.some g) p h = absurd h
+      found-row (Some f) (maybe.some g) p h =
+          spent (left_of 1 p)
+          ∙ left-row 1 p (λ q. E (list k) f.b f.at q) (evI g.bound g.body) (λ q. same (list k) g.body f.at f.b g.bound q h.1 h.0 h.2)
+        where
+          spent : (r : Result ℕ Answer) → answer_then {A = Entered} (result_then r (λ q. Ok (record { at = f.at; b = f.b; left = q }))) (λ x. E (list k) x.b x.at x.left) ≡ answer_then r (λ q. E (list k) f.b f.at q)
+          spent (Ok q) = refl
+          spent (Err r) = refl
 
-      enter-row : (vs : List Value) (t : Turn) (r : Answer) → t ≡ Ends r → body_of (list k) E (enter_then (list k) (P.fun k).arity vs t) ≡ r
-      unfolding body_of turn_then
-      enter-row vs t r e = rw e
-
-      call-row : (x : Listed) (y : Remaining Args) → ListMeets 0 nones (P.fun k).arity y x
+      call-row : (x : Result Listed Answer) (y : Remaining Args) → ListMeets 0 nones (P.fun k).arity y x
           → body_of (list k) E (entered_of (list k) (P.fun k).arity x) ≡ code (then_with y (call_pays evI (P.fun k).defs))
-      unfolding body_of entered_of
+      unfolding body_of entered_of result_then answer_then
       call-row x (ends_leaving (vals vs) p) h = rw h.0 (found-row _ (chosen (P.fun k).defs vs) p (finds.meets k vs h.1))
-      call-row x (ends_leaving (ended m) p) h = enter-row x.vals x.turn _ h
-      call-row x ran_out h = enter-row x.vals x.turn _ h
+      call-row x (ends_leaving (ended m) p) h = rw h
+      call-row x ran_out h = rw h
 
     abbrev E : ℕ → Evaluator
     E l = ev standing own ks si oi l
@@ -148,7 +150,7 @@ module _ (P : Program) (standing own ks si oi : List ℕ) where
         → ev standing own ks si oi l ws b a p ≡ code (pay_eval P l θ t p)
     unfolding ev pay_eval node call_of kind_of
     ev-term zero ws t a b θ p g h s = refl
-    ev-term (suc l) ws (const c) a b θ p g h s = by_kind l ws b a p (base_word c) (Data (base_word c)) (base-is ws a c h) (kind-const c)
+    ev-term (suc l) ws (const c) a b θ p g h s = by_kind l ws b a p (base_word c) (Data (named c)) (base-is ws a c h) (kind-const c)
     ev-term (suc l) ws (succ t) a b θ p g h s =
         by_kind l ws b a p 2 (Part Succ) (root_is ws a 2 _ h) refl
         ∙ rw (ev-term l ws t (a + 1) b θ p g.2.0 (first ws (a + 1) (tree t) [·] (parts ws a 2 _ h)) s) (succ-row (T l θ t p) _ _)
@@ -185,8 +187,8 @@ module _ (P : Program) (standing own ks si oi : List ℕ) where
         let m : many ts ≡ (P.fun k).arity = sym (len-trees ts) ∙ g.1 ∙ finds.arity k in
         by_kind l ws b a p (aux k 0) (Call k) r (kind-call k)
         ∙ rw (r, n)
-        (go-row 1 p 0
-        (λ i q. body_of (list k) (E l) (entered_of (list k) (P.fun k).arity (list_of ks (E l) ws b (P.fun k).arity (a + 1) 0 nones q)))
+        (left-row 1 p
+        (λ q. body_of (list k) (E l) (entered_of (list k) (P.fun k).arity (list_of ks (E l) ws b (P.fun k).arity (a + 1) 0 nones q)))
         (λ q. then_with (pay_args (T l) θ ts q) (call_pays (T l) (P.fun k).defs))
         (λ q. call-row (E l) (T l) (λ vs t c d η r g z y. ev-term l vs t c d η r g z y) k _ (pay_args (T l) θ ts q)
         (subst (λ (i : ℕ). ListMeets 0 nones i (pay_args (T l) θ ts q) (list_of ks (E l) ws b i (a + 1) 0 nones q)) m

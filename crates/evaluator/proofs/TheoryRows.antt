@@ -11,18 +11,19 @@ use Rattle.theory.specs.Endings.{Ending as TheoryEnding, value, raised, stuck, t
 use Rattle.theory.specs.Cost.{Args, vals, ended, evaluator}
 use Rattle.theory.specs.Budget.{Remaining, ends_leaving, ran_out, pay, then_with, PayingEv, succ_pays, handle_pays, if_pays, cons_pays, arg_pays, pay_eval, answered}
 use Rattle.theory.proofs.BudgetIsCut.{same_answer}
+use Rattle.std.specs.Prelude.{Result, Ok, Err}
 use Rattle.evaluator.specs.declared.values.Value.{Value}
 use Rattle.evaluator.specs.declared.values.Ending.{Ending}
 use Rattle.evaluator.specs.declared.values.Ending.TheVariants.{Done, Raised, Stuck, Out}
 use Rattle.evaluator.specs.declared.values.Answer.{Answer}
 use Rattle.evaluator.specs.declared.values.Outcome.{Outcome}
-use Rattle.evaluator.specs.declared.rows.Turn.TheVariants.{Ends, Goes}
-use Rattle.evaluator.specs.declared.rows.Took.TheVariants.{Takes, Ends as TookEnds}
+use Rattle.evaluator.specs.declared.rows.Onward.{Onward}
+use Rattle.evaluator.specs.declared.rows.Taken.{Taken}
 use Rattle.evaluator.specs.declared.evaluation.Listed.{Listed}
 use Rattle.evaluator.specs.declared.places.Op.TheVariants.{Succ, Handle, If}
 use Rattle.evaluator.specs.Values.{answer}
-use Rattle.evaluator.specs.Rows.{pay_of, go_of, after_succ, after_guard, after_test, turn_of, after_arg, took_of}
-use Rattle.evaluator.specs.Evaluation.{turn_then, took_then, paid_of}
+use Rattle.evaluator.specs.Rows.{left_of, pay_of, go_of, after_succ, after_guard, after_test, turn_of, after_arg, took_of}
+use Rattle.evaluator.specs.Evaluation.{answer_then, result_then, paid_of}
 use Rattle.evaluator.specs.Outcomes.{value_of, ending_of, outcome_of}
 
 abbrev pub code : Remaining TheoryEnding → Answer
@@ -51,39 +52,48 @@ pay-row c p m = by (leb c p)
     by true = refl
     by false = refl
 
-pub go-row : (c p n : ℕ) (k : ℕ → ℕ → Answer) (f : ℕ → Remaining TheoryEnding) → ((q : ℕ) → k n q ≡ code (f q)) → turn_then (go_of c p n) k ≡ code (pay p c f)
-unfolding go_of turn_then
-go-row c p n k f h = by (leb c p)
+pub left-row : (c p : ℕ) (k : ℕ → Answer) (f : ℕ → Remaining TheoryEnding) → ((q : ℕ) → k q ≡ code (f q)) → answer_then (left_of c p) k ≡ code (pay p c f)
+unfolding left_of answer_then
+left-row c p k f h = by (leb c p)
   where
-    by : (t : Bool) → turn_then (pick t (Goes n (p - c)) (Ends (answer Out 0))) k ≡ code (choose t (λ u. f (p - c)) (λ u. ran_out))
+    by : (t : Bool) → answer_then (pick t (Ok (p - c)) (Err (answer Out 0))) k ≡ code (choose t (λ u. f (p - c)) (λ u. ran_out))
     by true = h (p - c)
     by false = refl
 
-pub succ-row : (x : Remaining TheoryEnding) (e : ℕ) (k : ℕ → ℕ → Answer) → turn_then (turn_of Succ e (code x)) k ≡ code (then_with x succ_pays)
-unfolding turn_of after_succ turn_then
+go-row : (c p n : ℕ) (k : Onward → Answer) (f : ℕ → Remaining TheoryEnding) → ((q : ℕ) → k (record { parts = n; left = q }) ≡ code (f q))
+    → answer_then (go_of c p n) k ≡ code (pay p c f)
+unfolding go_of answer_then
+go-row c p n k f h = by (leb c p)
+  where
+    by : (t : Bool) → answer_then (pick t (Ok (record { parts = n; left = p - c })) (Err (answer Out 0))) k ≡ code (choose t (λ u. f (p - c)) (λ u. ran_out))
+    by true = h (p - c)
+    by false = refl
+
+pub succ-row : (x : Remaining TheoryEnding) (e : ℕ) (k : Onward → Answer) → answer_then (turn_of Succ e (code x)) k ≡ code (then_with x succ_pays)
+unfolding turn_of after_succ answer_then
 succ-row (ends_leaving (value v) n) e k = ap (λ (s : ℕ). answer (Done (record { succs = s; base = (value_of v).base })) n) (omega arith)
 succ-row (ends_leaving (raised d) n) e k = pay-row 1 n (raised d)
 succ-row (ends_leaving (stuck s) n) e k = ap (λ (s : ℕ). answer (Stuck s) n) (omega arith)
 succ-row (ends_leaving too_deep n) e k = refl
 succ-row ran_out e k = refl
 
-module _ (ev : PayingEv) (θ : Bindings) (k : ℕ → ℕ → Answer) where
-  pub handle-row : (x : Remaining TheoryEnding) (e : ℕ) (h : Term) → ((q : ℕ) → k 2 q ≡ code (ev θ h q))
-      → turn_then (turn_of Handle e (code x)) k ≡ code (then_with x (handle_pays ev θ e h))
-  unfolding turn_of after_guard turn_then
+module _ (ev : PayingEv) (θ : Bindings) (k : Onward → Answer) where
+  pub handle-row : (x : Remaining TheoryEnding) (e : ℕ) (h : Term) → ((q : ℕ) → k (record { parts = 2; left = q }) ≡ code (ev θ h q))
+      → answer_then (turn_of Handle e (code x)) k ≡ code (then_with x (handle_pays ev θ e h))
+  unfolding turn_of after_guard answer_then
   handle-row (ends_leaving (value v) n) e h g = pay-row (height v + 3) n (value v)
   handle-row (ends_leaving (raised d) n) e h g = by (eqb d e)
     where
-      by : (t : Bool) → turn_then (pick t (go_of 3 n 2) (Ends (pay_of 3 n (Raised d)))) k ≡ code (pay n 3 (choose t (λ u. ev θ h) (λ u. ends_leaving (raised d))))
+      by : (t : Bool) → answer_then (pick t (go_of 3 n 2) (Err (pay_of 3 n (Raised d)))) k ≡ code (pay n 3 (choose t (λ u. ev θ h) (λ u. ends_leaving (raised d))))
       by true = go-row 3 n 2 k (ev θ h) g
       by false = pay-row 3 n (raised d)
   handle-row (ends_leaving (stuck s) n) e h g = pay-row (1 + s) n (stuck 0)
   handle-row (ends_leaving too_deep n) e h g = refl
   handle-row ran_out e h g = refl
 
-  pub cond-row : (x : Remaining TheoryEnding) (e : ℕ) (a b : Term) → ((q : ℕ) → k 1 q ≡ code (ev θ a q)) → ((q : ℕ) → k 2 q ≡ code (ev θ b q))
-      → turn_then (turn_of If e (code x)) k ≡ code (then_with x (if_pays ev θ a b))
-  unfolding turn_of after_test turn_then
+  pub cond-row : (x : Remaining TheoryEnding) (e : ℕ) (a b : Term) → ((q : ℕ) → k (record { parts = 1; left = q }) ≡ code (ev θ a q)) → ((q : ℕ) → k (record { parts = 2; left = q }) ≡ code (ev θ b q))
+      → answer_then (turn_of If e (code x)) k ≡ code (then_with x (if_pays ev θ a b))
+  unfolding turn_of after_test answer_then
   cond-row (ends_leaving (value (base zero_b)) n) e a b g h = refl
   cond-row (ends_leaving (value (base true_b)) n) e a b g h = go-row 1 n 1 k (ev θ a) g
   cond-row (ends_leaving (value (base false_b)) n) e a b g h = go-row 1 n 2 k (ev θ b) h
@@ -99,37 +109,37 @@ fill arr i [] = arr
 fill arr i (v ∷ vs) = fill (set arr i (value_of v)) (i + 1) vs
 
 -- what n arguments come to, the first of them number i, as the code gives it
-abbrev pub ListMeets : ℕ → List Value → ℕ → Remaining Args → Listed → Type 0
-ListMeets i arr n (ends_leaving (vals vs) p) x = (x ≡ record { turn = Goes 0 p; vals = fill arr i vs }) × (length vs ≡ n)
-ListMeets i arr n (ends_leaving (ended m) p) x = x.turn ≡ Ends (answer (ending_of m) p)
-ListMeets i arr n ran_out x = x.turn ≡ Ends (answer Out 0)
+abbrev pub ListMeets : ℕ → List Value → ℕ → Remaining Args → Result Listed Answer → Type 0
+ListMeets i arr n (ends_leaving (vals vs) p) x = (x ≡ Ok (record { vals = fill arr i vs; left = p })) × (length vs ≡ n)
+ListMeets i arr n (ends_leaving (ended m) p) x = x ≡ Err (answer (ending_of m) p)
+ListMeets i arr n ran_out x = x ≡ Err (answer Out 0)
 
-cons-meets : (i : ℕ) (arr : List Value) (n : ℕ) (v : Val) (y : Remaining Args) (x : Listed) → ListMeets (i + 1) (set arr i (value_of v)) n y x
+cons-meets : (i : ℕ) (arr : List Value) (n : ℕ) (v : Val) (y : Remaining Args) (x : Result Listed Answer) → ListMeets (i + 1) (set arr i (value_of v)) n y x
     → ListMeets i arr (suc n) (then_with y (cons_pays v)) x
 cons-meets i arr n v (ends_leaving (vals vs) p) x h = (h.0, ap suc h.1)
 cons-meets i arr n v (ends_leaving (ended m) p) x h = h
 cons-meets i arr n v ran_out x h = h
 
-pub arg-row : (i : ℕ) (arr : List Value) (n : ℕ) (k : Value → ℕ → Listed) (rest : ℕ → Remaining Args)
-    → ((v : Val) (q : ℕ) → ListMeets (i + 1) (set arr i (value_of v)) n (rest q) (k (value_of v) q))
-    → (x : Remaining TheoryEnding) → ListMeets i arr (suc n) (then_with x (arg_pays rest)) (took_then (took_of (code x)) arr k)
-unfolding took_of after_arg took_then pay_of
+pub arg-row : (i : ℕ) (arr : List Value) (n : ℕ) (k : Taken → Result Listed Answer) (rest : ℕ → Remaining Args)
+    → ((v : Val) (q : ℕ) → ListMeets (i + 1) (set arr i (value_of v)) n (rest q) (k (record { value = value_of v; left = q })))
+    → (x : Remaining TheoryEnding) → ListMeets i arr (suc n) (then_with x (arg_pays rest)) (result_then (took_of (code x)) k)
+unfolding took_of after_arg result_then pay_of
 arg-row i arr n k rest h (ends_leaving (value v) p) = by (leb (height v + 3) p)
   where
     q : ℕ
     q = p - (height v + 3)
 
-    by : (t : Bool) → ListMeets i arr (suc n) (choose t (λ u. then_with (rest q) (cons_pays v)) (λ u. ran_out)) (took_then (pick t (Takes (value_of v) q) (TookEnds (answer Out 0))) arr k)
-    by true = cons-meets i arr n v (rest q) (k (value_of v) q) (h v q)
+    by : (t : Bool) → ListMeets i arr (suc n) (choose t (λ u. then_with (rest q) (cons_pays v)) (λ u. ran_out)) (result_then (pick t (Ok (record { value = value_of v; left = q })) (Err (answer Out 0))) k)
+    by true = cons-meets i arr n v (rest q) (k (record { value = value_of v; left = q })) (h v q)
     by false = refl
 arg-row i arr n k rest h (ends_leaving (raised e) p) = by (leb 3 p)
   where
-    by : (t : Bool) → ListMeets i arr (suc n) (choose t (λ u. ends_leaving (ended (raised e)) (p - 3)) (λ u. ran_out)) (took_then (TookEnds (pick t (answer (Raised e) (p - 3)) (answer Out 0))) arr k)
+    by : (t : Bool) → ListMeets i arr (suc n) (choose t (λ u. ends_leaving (ended (raised e)) (p - 3)) (λ u. ran_out)) (result_then (Err (pick t (answer (Raised e) (p - 3)) (answer Out 0))) k)
     by true = refl
     by false = refl
 arg-row i arr n k rest h (ends_leaving (stuck s) p) = by (leb (1 + s) p)
   where
-    by : (t : Bool) → ListMeets i arr (suc n) (choose t (λ u. ends_leaving (ended (stuck 0)) (p - (1 + s))) (λ u. ran_out)) (took_then (TookEnds (pick t (answer (Stuck 0) (p - (1 + s))) (answer Out 0))) arr k)
+    by : (t : Bool) → ListMeets i arr (suc n) (choose t (λ u. ends_leaving (ended (stuck 0)) (p - (1 + s))) (λ u. ran_out)) (result_then (Err (pick t (answer (Stuck 0) (p - (1 + s))) (answer Out 0))) k)
     by true = refl
     by false = refl
 arg-row i arr n k rest h (ends_leaving too_deep p) = refl

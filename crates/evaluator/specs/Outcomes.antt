@@ -1,7 +1,8 @@
 -- The theory's answers as the code gives them: for each ending, its case, and k and base of a value, the exception, or s.
 use Rattle.std.specs.Prelude.{ℕ}
-use Rattle.theory.specs.Syntax.{Base, zero_b, true_b, false_b, Val, height, base_of}
+use Rattle.theory.specs.Syntax.{Base, Val, height, base_of}
 use Rattle.theory.specs.Endings.{Ending as TheoryEnding, value, raised, stuck, too_deep, Said, is, out_of_steps, too_big, Answer as TheoryAnswer}
+use Rattle.words.specs.Base.{word_of, named}
 use Rattle.evaluator.specs.declared.values.Value.{Value}
 use Rattle.evaluator.specs.declared.values.Ending.{Ending}
 use Rattle.evaluator.specs.declared.values.Ending.TheVariants.{Done, Raised, Stuck, Out, Deep}
@@ -9,12 +10,10 @@ use Rattle.evaluator.specs.declared.values.Outcome.{Outcome}
 
 -- a constant's word, and a value
 abbrev pub base_word : Base → ℕ
-base_word zero_b = 1
-base_word true_b = 3
-base_word false_b = 4
+base_word b = word_of (named b)
 
 abbrev pub value_of : Val → Value
-value_of v = record { succs = height v; base = base_word (base_of v) }
+value_of v = record { succs = height v; base = named (base_of v) }
 
 abbrev pub ending_of : TheoryEnding → Ending
 ending_of (value v) = Done (value_of v)

@@ -1,9 +1,8 @@
 -- What stands at a place of words.
-use Rattle.std.specs.Prelude.{ℕ, ◌-◌, ◌/◌, List, eqb, ltb, leb, length, drop}
+use Rattle.std.specs.Prelude.{ℕ, ◌-◌, ◌/◌, List, eqb, ltb, leb, length, drop, unwrap_or}
 use Rattle.theory.specs.Syntax.{pick}
 use Rattle.words.specs.Terms.{arity_of, past}
-use Rattle.words.specs.declared.terms.Reach.{Reach}
-use Rattle.words.specs.declared.terms.Reach.TheVariants.{End, Short}
+use Rattle.words.specs.declared.base.Base.TheVariants.{Zero, True, False}
 use Rattle.evaluator.specs.declared.places.Op.TheVariants.{Succ, Handle, If}
 use Rattle.evaluator.specs.declared.places.Kind.{Kind}
 use Rattle.evaluator.specs.declared.places.Kind.TheVariants.{Data, Var, Raise, Part, Call, Other}
@@ -11,10 +10,10 @@ use Rattle.evaluator.specs.declared.places.Kind.TheVariants.{Data, Var, Raise, P
 -- what a word is the root of
 unfoldable pub kind_of : ℕ → Kind
 kind_of w =
-    pick (eqb w 1) (Data 1)
+    pick (eqb w 1) (Data Zero)
     (pick (eqb w 2) (Part Succ)
-    (pick (eqb w 3) (Data 3)
-    (pick (eqb w 4) (Data 4)
+    (pick (eqb w 3) (Data True)
+    (pick (eqb w 4) (Data False)
     (pick (eqb w 10) (Part If)
     (pick (eqb w 11) Raise
     (pick (eqb w 12) (Part Handle)
@@ -27,10 +26,6 @@ kind_of w =
 unfoldable pub arguments_of : List ℕ → ℕ → ℕ
 arguments_of ks w = pick (leb (arity_of ks w) 4) (arity_of ks w) 0
 
-abbrev pub end_or : ℕ → Reach → ℕ
-end_or d (End e) = e
-end_or d Short = d
-
 -- the place past n terms of ws, from the place a on; the end of ws where it ends before that
 unfoldable pub place_past : List ℕ → List ℕ → ℕ → ℕ → ℕ
-place_past ks ws a n = end_or (length ws) (past (arity_of ks) (drop a ws) n a)
+place_past ks ws a n = unwrap_or (past (arity_of ks) (drop a ws) n a) (length ws)

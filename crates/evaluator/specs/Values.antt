@@ -1,5 +1,6 @@
 -- Eight values that variables stand for, and bounds on values.
 use Rattle.std.specs.Prelude.{ℕ, ◌≤◌, List, get_or, replicate}
+use Rattle.words.specs.declared.base.Base.TheVariants.{Zero}
 use Rattle.evaluator.specs.declared.values.Value.{Value}
 use Rattle.evaluator.specs.declared.values.Ending.{Ending}
 use Rattle.evaluator.specs.declared.values.Ending.TheVariants.{Done, Raised, Stuck, Out, Deep}
@@ -7,7 +8,7 @@ use Rattle.evaluator.specs.declared.values.Answer.{Answer}
 
 -- what a variable stands for before it is bound: 0
 abbrev pub none : Value
-none = record { succs = 0; base = 1 }
+none = record { succs = 0; base = Zero }
 
 abbrev pub nones : List Value
 nones = replicate 8 none

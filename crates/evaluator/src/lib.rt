@@ -9,41 +9,21 @@ mod rows;
 pub mod values;
 
 ghost use Rattle.std.specs.Prelude.{◌≡◌, ◌≤◌};
-ghost use Rattle.evaluator.specs.Evaluation.{evaluated};
+ghost use Rattle.evaluator.specs.Evaluation.{evaluated_by};
 
 use crate::evaluation::eval;
 use crate::values::{Outcome, Value};
+use rules::lists::Lists;
 
-// The question in ws, by the program whose standing list, own list and arities are lent, with the indexes of the two lists.
-pub fn evaluate<'a>(
-    ws: &[u16],
-    standing: &'a [u16],
-    own: &'a [u16],
-    arities: &[u8],
-    standing_index: &[usize],
-    own_index: &[usize],
-    levels: usize,
-    steps: u32,
-) -> Outcome
+// The question in ws, by the program whose lists are lent.
+#[tactic(auto, unfolding(crate::specs::Evaluation::evaluated))]
+pub fn evaluate(ws: &[u16], lists: Lists, levels: usize, steps: u32) -> Outcome
     requires { (levels ≤ 1000) × (steps ≤ 1000000) }
-    ensures { result ≡ evaluated ws.now standing.now own.now arities.now standing_index.now own_index.now levels steps }
+    ensures { result ≡ evaluated_by lists.entry ws.now levels steps }
 {
-    let zero = Value { succs: 0, base: 1 };
-    let a = eval(
-        ws,
-        0,
-        standing,
-        own,
-        arities,
-        standing_index,
-        own_index,
-        [zero; 8],
-        levels,
-        steps,
-    );
-    let end = a.end;
+    let a = eval(ws, 0, &lists, [Value::ZERO; 8], levels, steps);
     Outcome {
-        end,
+        end: a.end,
         steps: steps - a.left,
     }
 }

@@ -1,172 +1,123 @@
-// The rows of document 01's table of steps: what follows each ending of a part.
+// The rows of document 01's table of steps: what follows each ending of a part. An Err is how the evaluation ends here.
 ghost use Rattle.std.specs.Prelude.{◌≡◌, ◌≤◌};
 ghost use Rattle.evaluator.specs.Values.{size};
-ghost use Rattle.evaluator.specs.Rows.{pay_of, go_of, after_succ, after_guard, after_test, took_of};
+ghost use Rattle.evaluator.specs.Rows.{left_of, pay_of, go_of, after_succ, after_guard, chosen_part, after_test, took_of};
 
 use crate::values::{Answer, Ending, Value};
+use words::base::Base;
 
-// After a part: it ends here, or goes on, so many parts further, with the steps left.
+// After a part: it goes on, so many parts further, with the steps left.
 #[derive(Clone, Copy)]
-pub enum Turn {
-    Ends(Answer),
-    Goes(u16, u32),
+pub struct Onward {
+    pub parts: u16,
+    pub left: u32,
 }
 
-// After an argument: its value and the steps left, or the end.
+// After an argument: its value, and the steps left.
 #[derive(Clone, Copy)]
-pub enum Took {
-    Takes(Value, u32),
-    Ends(Answer),
+pub struct Taken {
+    pub value: Value,
+    pub left: u32,
+}
+
+// What is left of p steps once c are paid; it ends out of steps where they do not suffice.
+#[tactic(auto, unfolding(crate::specs::Rows::left_of))]
+pub fn spend(c: u32, p: u32) -> Result<u32, Answer>
+    ensures { result ≡ left_of c p }
+{
+    p.checked_sub(c).ok_or(Ending::Out.leaving(0))
 }
 
 // Ends with e once c steps are paid.
+#[tactic(auto, unfolding(crate::specs::Rows::pay_of, crate::specs::Rows::left_of))]
 pub fn pay(c: u32, p: u32, e: Ending) -> Answer
     ensures { result ≡ pay_of c p e }
 {
-    if c <= p {
-        Answer {
-            end: e,
-            left: p - c,
-        }
-    } else {
-        Answer {
-            end: Ending::Out,
-            left: 0,
-        }
+    match spend(c, p) {
+        Ok(left) => e.leaving(left),
+        Err(out) => out,
     }
 }
 
 // Goes on, n parts further, once c steps are paid.
-pub fn go(c: u32, p: u32, n: u16) -> Turn
+#[tactic(auto, unfolding(crate::specs::Rows::go_of, crate::specs::Rows::left_of))]
+pub fn go(c: u32, p: u32, n: u16) -> Result<Onward, Answer>
     ensures { result ≡ go_of c p n }
 {
-    if c <= p {
-        Turn::Goes(n, p - c)
-    } else {
-        Turn::Ends(Answer {
-            end: Ending::Out,
-            left: 0,
-        })
-    }
+    let left = spend(c, p)?;
+    Ok(Onward { parts: n, left })
 }
 
-pub fn after_succ(end: Ending, p: u32) -> Turn
+// After the part of a succ.
+#[tactic(auto, unfolding(crate::specs::Rows::after_succ))]
+pub fn after_succ(end: Ending, p: u32) -> Answer
     requires { size end ≤ 1002000 }
     ensures { result ≡ after_succ end p }
 {
     match end {
-        Ending::Done(v) => Turn::Ends(Answer {
-            end: Ending::Done(Value {
-                succs: v.succs + 1,
-                base: v.base,
-            }),
-            left: p,
-        }),
-        Ending::Raised(e) => Turn::Ends(pay(1, p, Ending::Raised(e))),
-        Ending::Stuck(s) => Turn::Ends(Answer {
-            end: Ending::Stuck(s + 1),
-            left: p,
-        }),
-        Ending::Out => Turn::Ends(Answer {
-            end: Ending::Out,
-            left: p,
-        }),
-        Ending::Deep => Turn::Ends(Answer {
-            end: Ending::Deep,
-            left: p,
-        }),
+        Ending::Done(v) => {
+            let succs = v.succs + 1;
+            Ending::Done(Value { succs, ..v }).leaving(p)
+        }
+        Ending::Raised(_) => pay(1, p, end),
+        Ending::Stuck(s) => Ending::Stuck(s + 1).leaving(p),
+        Ending::Out | Ending::Deep => end.leaving(p),
     }
 }
 
 // After the guarded part of a handle with the exception e.
-pub fn after_guard(e: u16, end: Ending, p: u32) -> Turn
+#[tactic(auto, unfolding(crate::specs::Rows::after_guard))]
+pub fn after_guard(e: u16, end: Ending, p: u32) -> Result<Onward, Answer>
     requires { size end ≤ 1002000 }
     ensures { result ≡ after_guard e end p }
 {
     match end {
-        Ending::Done(v) => Turn::Ends(pay(v.succs + 3, p, Ending::Done(v))),
-        Ending::Raised(x) => {
-            if x == e {
-                go(3, p, 2)
-            } else {
-                Turn::Ends(pay(3, p, Ending::Raised(x)))
-            }
-        }
-        Ending::Stuck(s) => Turn::Ends(pay(1 + s, p, Ending::Stuck(0))),
-        Ending::Out => Turn::Ends(Answer {
-            end: Ending::Out,
-            left: p,
-        }),
-        Ending::Deep => Turn::Ends(Answer {
-            end: Ending::Deep,
-            left: p,
-        }),
+        Ending::Done(v) => Err(pay(v.succs + 3, p, end)),
+        Ending::Raised(x) if x == e => go(3, p, 2),
+        Ending::Raised(_) => Err(pay(3, p, end)),
+        Ending::Stuck(s) => Err(pay(1 + s, p, Ending::Stuck(0))),
+        Ending::Out | Ending::Deep => Err(end.leaving(p)),
+    }
+}
+
+// The part of an if that its test's constant chooses; zero chooses none.
+fn chosen_part(base: Base, p: u32) -> Result<Onward, Answer>
+    ensures { result ≡ chosen_part base p }
+{
+    match base {
+        Base::Zero => Err(Ending::Stuck(0).leaving(p)),
+        Base::True => go(1, p, 1),
+        Base::False => go(1, p, 2),
     }
 }
 
 // After the first part of an if.
-pub fn after_test(end: Ending, p: u32) -> Turn
+#[tactic(auto, unfolding(crate::specs::Rows::after_test))]
+pub fn after_test(end: Ending, p: u32) -> Result<Onward, Answer>
     ensures { result ≡ after_test end p }
 {
     match end {
-        Ending::Done(v) => {
-            if v.succs == 0 {
-                if v.base == 3 {
-                    return go(1, p, 1);
-                }
-                if v.base == 4 {
-                    return go(1, p, 2);
-                }
-            }
-            Turn::Ends(Answer {
-                end: Ending::Stuck(0),
-                left: p,
-            })
-        }
-        Ending::Raised(x) => Turn::Ends(pay(1, p, Ending::Raised(x))),
-        Ending::Stuck(_) => Turn::Ends(Answer {
-            end: Ending::Stuck(0),
-            left: p,
-        }),
-        Ending::Out => Turn::Ends(Answer {
-            end: Ending::Out,
-            left: p,
-        }),
-        Ending::Deep => Turn::Ends(Answer {
-            end: Ending::Deep,
-            left: p,
-        }),
+        Ending::Done(v) if v.succs == 0 => chosen_part(v.base, p),
+        Ending::Done(_) | Ending::Stuck(_) => Err(Ending::Stuck(0).leaving(p)),
+        Ending::Raised(_) => Err(pay(1, p, end)),
+        Ending::Out | Ending::Deep => Err(end.leaving(p)),
     }
 }
 
 // After an argument of a call.
-pub fn take_value(r: Answer) -> Took
+#[tactic(auto, unfolding(crate::specs::Rows::took_of, crate::specs::Rows::after_arg, crate::specs::Rows::left_of))]
+pub fn take_value(r: Answer) -> Result<Taken, Answer>
     requires { size r.end ≤ 1002000 }
     ensures { result ≡ took_of r }
 {
-    let end = r.end;
-    let p = r.left;
+    let Answer { end, left: p } = r;
     match end {
-        Ending::Done(v) => {
-            let c = v.succs + 3;
-            if c <= p {
-                Took::Takes(v, p - c)
-            } else {
-                Took::Ends(Answer {
-                    end: Ending::Out,
-                    left: 0,
-                })
-            }
+        Ending::Done(value) => {
+            let left = spend(value.succs + 3, p)?;
+            Ok(Taken { value, left })
         }
-        Ending::Raised(x) => Took::Ends(pay(3, p, Ending::Raised(x))),
-        Ending::Stuck(s) => Took::Ends(pay(1 + s, p, Ending::Stuck(0))),
-        Ending::Out => Took::Ends(Answer {
-            end: Ending::Out,
-            left: p,
-        }),
-        Ending::Deep => Took::Ends(Answer {
-            end: Ending::Deep,
-            left: p,
-        }),
+        Ending::Raised(_) => Err(pay(3, p, end)),
+        Ending::Stuck(succs) => Err(pay(1 + succs, p, Ending::Stuck(0))),
+        Ending::Out | Ending::Deep => Err(r),
     }
 }

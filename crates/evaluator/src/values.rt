@@ -1,12 +1,22 @@
 // Values, how an evaluation ends, and the eight values that a call's variables stand for.
 ghost use Rattle.std.specs.Prelude.{◌≡◌, get_or};
-ghost use Rattle.evaluator.specs.Values.{none};
+ghost use Rattle.evaluator.specs.Values.{answer, none};
 
-// succ so many times over the constant whose word is base: 1, 3 or 4.
+use words::base::Base;
+
+// succ so many times over a constant.
 #[derive(Clone, Copy)]
 pub struct Value {
     pub succs: u32,
-    pub base: u16,
+    pub base: Base,
+}
+
+impl Value {
+    // What a variable stands for before it is bound: 0.
+    pub const ZERO: Value = Value {
+        succs: 0,
+        base: Base::Zero,
+    };
 }
 
 // A value; an exception; stuck with so many succ signs outside; out of steps; too deep.
@@ -26,6 +36,15 @@ pub struct Answer {
     pub left: u32,
 }
 
+impl Ending {
+    // The answer that ends so, with so many steps left.
+    pub fn leaving(self, left: u32) -> Answer
+        ensures { result ≡ answer self left }
+    {
+        Answer { end: self, left }
+    }
+}
+
 // How an evaluation ended, and the steps that it took.
 #[derive(Clone, Copy)]
 pub struct Outcome {
@@ -37,9 +56,5 @@ pub struct Outcome {
 pub fn bound(b: [Value; 8], x: usize) -> Value
     ensures { result ≡ get_or b x none }
 {
-    if x < 8 {
-        b[x]
-    } else {
-        Value { succs: 0, base: 1 }
-    }
+    b.get(x).copied().unwrap_or(Value::ZERO)
 }

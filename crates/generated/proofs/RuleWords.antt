@@ -10,7 +10,7 @@ use Rattle.theory.specs.Syntax.{pick}
 use Rattle.theory.specs.Tree.{Rule, var, node, [·], ◌▹◌, sizes}
 use Rattle.theory.specs.Words.{words, stored_rules, stored_rule}
 use Rattle.theory.specs.Translation.{other_rule, exn_t, fire_t, select_t, ◌⇒◌, variables, entry_rule, arg_rule, aux}
-use Rattle.theory.proofs.Tests.{eqb-true, eqb-false}
+use Rattle.theory.proofs.Tests.{eqb-true}
 
 -- the rule of two exceptions: none where they are equal
 abbrev other_of : ℕ → ℕ → List Rule
@@ -18,9 +18,6 @@ other_of d e = (select_t (fire_t (exn_t d)) (var 0) (exn_t e) (var 1) ⇒ fire_t
 
 pub other-same : (d e : ℕ) → d ≡ e → stored_rules (other_rule d e) ≡ []
 other-same d e h = ap (λ (b : Bool). stored_rules (pick b [] (other_of d e))) (eqb-true d e h)
-
-pub other_differ : (d e : ℕ) → (d ≡ e → ⊥) → stored_rules (other_rule d e) ≡ stored_rules (other_of d e)
-other_differ d e h = ap (λ (b : Bool). stored_rules (pick b [] (other_of d e))) (eqb-false d e h)
 
 -- a symbol over the first n variables
 pub call-words : (w n : ℕ) → n ≤ 4 → take (n + 1) (w ∷ 64 ∷ 65 ∷ 66 ∷ 67 ∷ []) ≡ words (node w (variables 0 n))

@@ -1,5 +1,5 @@
 -- Writes one after the other are one write; the turns of a loop over numbers from 0.
-use mathlib.Core.Path.{◌≡◌, sym, ap, ◌∙◌}
+use mathlib.Core.Path.{◌≡◌, refl, sym, ap, ◌∙◌}
 use mathlib.Core.List.{List, [], ◌++◌, append_assoc, append-nil}
 use Prim.Native.Nat.{ℕ, zero, suc, ◌+◌, ◌-◌, ◌≤◌, ◌<◌}
 use native.Mathlib.Nat.{add_assoc}
@@ -12,30 +12,38 @@ use Rattle.theory.specs.Tree.{Rule}
 use Rattle.theory.specs.Words.{stored_rules}
 use Rattle.theory.specs.Translation.{gather, numbers}
 use Rattle.theory.proofs.Readability.{list-append}
+use Rattle.generated.specs.declared.writing.Writer.{Writer}
 use Rattle.generated.specs.Wrote.{Room, Wrote}
 
 -- nothing is written
-pub wrote_none : (at : ℕ) (d : List ℕ) → Wrote [] at d d at
-wrote_none at d = record { place = omega arith; words = sym (put-none at d) }
+pub wrote_none : (u : Writer) → Wrote [] u u
+wrote_none u = record { place = omega arith; words = sym (put-none u.at u.dst.now); same_slice = refl }
 
 -- a slice keeps its length
-pub wrote-length : {ws : List ℕ} {at next : ℕ} {d d' : List ℕ} → Wrote ws at d d' next → length d' ≡ length d
-wrote-length {ws} {at} {next} {d} w = ap length w.words ∙ length-put at ws d
+pub wrote-length : {ws : List ℕ} {u v : Writer} → Wrote ws u v → length v.dst.now ≡ length u.dst.now
+wrote-length {ws} {u} w = ap length w.words ∙ length-put u.at ws u.dst.now
 
 -- words written just past others
-pub wrote_then : {s t : List ℕ} {at m n : ℕ} {d d₁ d₂ : List ℕ} → Wrote s at d d₁ m → Wrote t m d₁ d₂ n → Wrote (s ++ t) at d d₂ n
-wrote_then {s} {t} {at} {m} {n} {d} {d₁} {d₂} w v =
+pub wrote_then : {s t : List ℕ} {u v w : Writer} → Wrote s u v → Wrote t v w → Wrote (s ++ t) u w
+wrote_then {s} {t} {u} {v} {w} a b =
     record {
-      place = v.place ∙ ap (◌+ length t) w.place ∙ add_assoc at (length s) (length t) ∙ ap (at +◌) (sym (length-append s t));
-      words = v.words ∙ ap (λ (k : ℕ). put k t d₁) w.place ∙ ap (put (at + length s) t) w.words ∙ put-append at s t d;
+      place = b.place ∙ ap (◌+ length t) a.place ∙ add_assoc u.at (length s) (length t) ∙ ap (u.at +◌) (sym (length-append s t));
+      words = b.words ∙ ap (λ (k : ℕ). put k t v.dst.now) a.place ∙ ap (put (u.at + length s) t) a.words ∙ put-append u.at s t u.dst.now;
+      same_slice = b.same_slice ∙ a.same_slice;
     }
 
-pub wrote_as : {s t : List ℕ} {at n : ℕ} {d d' : List ℕ} → s ≡ t → Wrote s at d d' n → Wrote t at d d' n
-wrote_as {s} {t} {at} {n} {d} {d'} e w = rw e at w
+pub wrote_as : {s t : List ℕ} {u v : Writer} → s ≡ t → Wrote s u v → Wrote t u v
+wrote_as {s} {t} {u} {v} e w = rw e at w
 
--- there is room for what comes behind
-pub room-then : (s t : List ℕ) (at m : ℕ) (d d₁ : List ℕ) → Wrote s at d d₁ m → Room (s ++ t) at d → Room t m d₁
-room-then s t at m d d₁ w h = omega (arith, w.place, wrote-length w, length-append s t)
+-- there is room for what comes first, and then for what comes behind
+pub room-first : (s t : List ℕ) (u : Writer) → Room (s ++ t) u → Room s u
+room-first s t u h = omega (arith, length-append s t)
+
+pub room-then : (s t : List ℕ) {u v : Writer} → Wrote s u v → Room (s ++ t) u → Room t v
+room-then s t {u} {v} w h = omega (arith, w.place, wrote-length w, length-append s t)
+
+pub room_as : {s t : List ℕ} (u : Writer) → s ≡ t → Room s u → Room t u
+room_as {s} {t} u e h = rw e at h
 
 -- the words of the rules that f gives for the numbers below n
 abbrev pub below : (ℕ → List Rule) → ℕ → List ℕ
@@ -59,19 +67,13 @@ below-le f m (suc k) =
     rw e (omega (arith, below-le f m k, ap length (below_more f (m + k)), length-append (below f (m + k)) (stored_rules (f (m + k)))))
 
 -- a turn of a loop that writes the rules of i: there is room, and then the rules of one number more are written
-pub turn-room : (f : ℕ → List Rule) (n i at m : ℕ) (d d₁ : List ℕ) → i < n → Room (below f n) at d → Wrote (below f i) at d d₁ m → Room (stored_rules (f i)) m d₁
-turn-room f n i at m d d₁ h room w =
+pub turn-room : (f : ℕ → List Rule) (n i : ℕ) {u v : Writer} → i < n → Room (below f n) u → Wrote (below f i) u v → Room (stored_rules (f i)) v
+turn-room f n i h room w =
     let e : i + 1 + (n - (i + 1)) ≡ n = omega arith in
     omega (arith, w.place, wrote-length w, rw e at (below-le f (i + 1) (n - (i + 1))), ap length (below_more f i), length-append (below f i) (stored_rules (f i)))
 
-pub turn_more : (f : ℕ → List Rule) (i : ℕ) {at m n : ℕ} {d d₁ d₂ : List ℕ} → Wrote (below f i) at d d₁ m → Wrote (stored_rules (f i)) m d₁ d₂ n → Wrote (below f (i + 1)) at d d₂ n
-turn_more f i w v = wrote_as (sym (below_more f i)) (wrote_then w v)
-
-pub room-first : (s t : List ℕ) (at : ℕ) (d : List ℕ) → Room (s ++ t) at d → Room s at d
-room-first s t at d h = omega (arith, length-append s t)
-
-pub room_as : {s t : List ℕ} (at : ℕ) (d : List ℕ) → s ≡ t → Room s at d → Room t at d
-room_as {s} {t} at d e h = rw e at h
+pub turn_more : (f : ℕ → List Rule) (i : ℕ) {u v w : Writer} → Wrote (below f i) u v → Wrote (stored_rules (f i)) v w → Wrote (below f (i + 1)) u w
+turn_more f i a b = wrote_as (sym (below_more f i)) (wrote_then a b)
 
 -- four lists of rules, one after the other
 pub list-four : (a b c d : List Rule) → stored_rules (a ++ (b ++ (c ++ d))) ≡ stored_rules a ++ (stored_rules b ++ (stored_rules c ++ stored_rules d))

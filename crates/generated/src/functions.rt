@@ -6,7 +6,7 @@ ghost use Rattle.theory.specs.Tree.{node};
 ghost use Rattle.theory.specs.Words.{words, stored_rules, stored_rule};
 ghost use Rattle.theory.specs.Translation.{gather, numbers, entry_rule, arg_rule, variables, aux};
 
-use super::writing::put_words;
+use super::writing::{Writer, put_each};
 
 // The symbol of function k, where j is 0, and of its auxiliary j.
 pub fn symbol(k: u16, j: u16) -> u16
@@ -16,64 +16,62 @@ pub fn symbol(k: u16, j: u16) -> u16
     256 + 8 * k + j
 }
 
-// The symbol w over the first n variables.
-fn put_call(dst: &mut [u16], at: usize, w: u16, n: u16) -> usize
-    requires n_bound { n ≤ 4 }
-    requires room { Room (words (node w (variables 0 n))) at dst.old }
-    ensures { Wrote (words (node w (variables 0 n))) at dst.old dst.new result }
+// A function: its number, and how many arguments it has.
+#[derive(Clone, Copy)]
+struct Call {
+    k: u16,
+    n: u16,
+    ghost k_bound: { k < 300 },
+    ghost n_bound: { n ≤ 4 },
+}
+
+// The function, where j is 0, or its auxiliary j, over its variables.
+fn put_call(out: &mut Writer, call: Call, j: u16)
+    requires j_bound { j < 8 }
+    requires room { Room (words (node (aux call.k j) (variables 0 call.n))) out.old }
+    ensures { Wrote (words (node (aux call.k j) (variables 0 call.n))) out.old out.new }
 {
-    let call = [w, 64u16, 65, 66, 67];
-    let size = n as usize + 1;
-    put_words(dst, at, &call[0..size])
+    let words = [symbol(call.k, j), 64, 65, 66, 67];
+    out.put(&words[..usize::from(call.n) + 1]);
 }
 
 // f(x..) → f1(x..)
-fn entry_rule(dst: &mut [u16], at: usize, k: u16, n: u16) -> usize
-    requires k_bound { (k < 300) × (n ≤ 4) }
-    requires room { Room (stored_rule (entry_rule k n)) at dst.old }
-    ensures { Wrote (stored_rule (entry_rule k n)) at dst.old dst.new result }
+fn entry_rule(out: &mut Writer, call: Call)
+    requires { Room (stored_rule (entry_rule call.k call.n)) out.old }
+    ensures { Wrote (stored_rule (entry_rule call.k call.n)) out.old out.new }
 {
-    let counts = [n + 1, n + 1];
-    let left = put_words(dst, at, &counts);
-    let right = put_call(dst, left, symbol(k, 0), n);
-    put_call(dst, right, symbol(k, 1), n)
+    out.put(&[call.n + 1, call.n + 1]);
+    put_call(out, call, 0);
+    put_call(out, call, 1);
 }
 
 // fi(x..) → guard(isData(xi),fi+1(x..)), where i counts from 0
-fn argument_rule(dst: &mut [u16], at: usize, k: u16, n: u16, i: u16) -> usize
-    requires k_bound { (k < 300) × (n ≤ 4) × (i < n) }
-    requires room { Room (stored_rules (arg_rule k n i)) at dst.old }
-    ensures { Wrote (stored_rules (arg_rule k n i)) at dst.old dst.new result }
+fn argument_rule(out: &mut Writer, call: Call, i: u16)
+    requires i_bound { i < call.n }
+    requires room { Room (stored_rules (arg_rule call.k call.n i)) out.old }
+    ensures { Wrote (stored_rules (arg_rule call.k call.n i)) out.old out.new }
 {
-    let counts = [n + 1, n + 4];
-    let left = put_words(dst, at, &counts);
-    let right = put_call(dst, left, symbol(k, i + 1), n);
-    let guard = [7u16, 9, 64 + i];
-    let last = put_words(dst, right, &guard);
-    put_call(dst, last, symbol(k, i + 2), n)
+    out.put(&[call.n + 1, call.n + 4]);
+    put_call(out, call, i + 1);
+    out.put(&[7, 9, 64 + i]);
+    put_call(out, call, i + 2);
 }
 
-// The rule of each argument of function k, from the first.
-fn argument_rules(dst: &mut [u16], at: usize, k: u16, n: u16) -> usize
-    requires k_bound { (k < 300) × (n ≤ 4) }
-    requires room { Room (stored_rules (gather (arg_rule k n) (numbers 0 n))) at dst.old }
-    ensures { Wrote (stored_rules (gather (arg_rule k n) (numbers 0 n))) at dst.old dst.new result }
+// The rule of each argument, from the first.
+fn argument_rules(out: &mut Writer, call: Call)
+    requires { Room (stored_rules (gather (arg_rule call.k call.n) (numbers 0 call.n))) out.old }
+    ensures { Wrote (stored_rules (gather (arg_rule call.k call.n) (numbers 0 call.n))) out.old out.new }
 {
-    let mut next = at;
-    let mut i = 0;
-    while i < n {
-        next = argument_rule(dst, next, k, n, i);
-        i += 1;
-    }
-    next
+    put_each(out, call.n, |out, i| argument_rule(out, call, i));
 }
 
 // Both: the entry rule of function k with n arguments, and then the rule of each argument.
-pub fn call_rules(dst: &mut [u16], at: usize, k: u16, n: u16) -> usize
+pub fn call_rules(out: &mut Writer, k: u16, n: u16)
     requires k_bound { (k < 300) × (n ≤ 4) }
-    requires room { Room (stored_rules (call_rules k n)) at dst.old }
-    ensures { Wrote (stored_rules (call_rules k n)) at dst.old dst.new result }
+    requires room { Room (stored_rules (call_rules k n)) out.old }
+    ensures { Wrote (stored_rules (call_rules k n)) out.old out.new }
 {
-    let entered = entry_rule(dst, at, k, n);
-    argument_rules(dst, entered, k, n)
+    let call = Call { k, n };
+    entry_rule(out, call);
+    argument_rules(out, call);
 }

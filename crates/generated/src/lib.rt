@@ -1,5 +1,4 @@
-// The rules that definition 4.1 generates, as words: each writer puts them into a lent slice from a place on, and answers the place past
-// them.
+// The rules that definition 4.1 generates, as words: each function appends them to a writer over a lent slice.
 #![tactic(auto)]
 
 pub mod exceptions;

@@ -8,23 +8,21 @@ use native.Mathlib.Numerals.{add-one}
 use native.Mathlib.Omega.{arith}
 use lib.ListN.{length, get_or, take, drop, set, replicate, length-append, length-drop, length-set, length-replicate}
 use lib.Seq.{length-take-le, take_at, set_split, append_snoc}
+use Rattle.std.specs.Prelude.{Option as Maybe, Some}
 use Rattle.theory.specs.Syntax.{pick}
 use Rattle.theory.specs.Words.{is_var}
 use Rattle.theory.proofs.Tests.{leb-true, leb-false}
 use Rattle.theory.proofs.Lists.{drop-next}
-use Rattle.words.specs.declared.terms.Reach.{Reach}
-use Rattle.words.specs.declared.terms.Reach.TheVariants.{End}
 use Rattle.words.specs.Terms.{arity_of, past, skip_at, succs_end}
 use Rattle.words.proofs.Skips.{skip-root, value-skips}
 use Rattle.rules.specs.Matching.{fits}
 use Rattle.rules.specs.Finding.{fitting_of, rule_of}
-use Rattle.rules.specs.declared.finding.Fitting.{Fitting}
+use Rattle.rules.specs.declared.index.Span.{Span}
 use Rattle.rules.specs.Usual.{Usual}
 use Rattle.rules.proofs.Fitted.{Fitted, found-fits}
 use Rattle.place.specs.Path.{site_at}
 use Rattle.place.specs.Noted.{OnPath, Numbered}
 use Rattle.place.specs.declared.Site.{Site}
-use Rattle.place.specs.declared.Site.TheVariants.{Nothing, At}
 use Rattle.place.proofs.Path.{site-found, site-inside}
 use Rattle.place.proofs.Noted.{path-kept}
 use Rattle.step.specs.Next.{left, right, next_w}
@@ -89,21 +87,22 @@ module _ (rule : List ℕ) (a n : ℕ) (c : Calls rule a n) where
         (ap₂ {C = List ℕ} ◌∷◌ (word (n + 3 + 3) (n + 6) (get_or rule (n + 6) 0) six-on refl) (ap (λ (y : ℕ). take n (drop y rule)) behind ∙ r.all))))
 
 -- ---- the rule is found at the place p of the term t, on the noted path
-module _ (ks standing own si oi t path : List ℕ) (room p m n : ℕ) (f : Fitting) (site : site_at ks (fitting_of ks standing own si oi) t 0 ≡ At p f)
-    (on : (get_or path m 0 ≡ p) × OnPath ks t path m) (fits-room : length t ≤ room) (c : Calls (rule_of standing own f) (get_or t p 0) n) where
+module _ (ks standing own : List ℕ) (si oi : List Span) (t path : List ℕ) (room m n : ℕ) (z : Site) (site : site_at ks (fitting_of ks standing own si oi) t 0 ≡ Some z)
+    (on : (get_or path m 0 ≡ z.place) × OnPath ks t path m) (fits-room : length t ≤ room) (c : Calls (rule_of standing own (Some z.rule)) (get_or t z.place 0) n) where
+  abbrev p : ℕ
+  p = z.place
+
   abbrev N : List ℕ → Option (List ℕ)
   N = next_w ks standing own si oi
 
   abbrev rule : List ℕ
-  rule = rule_of standing own f
+  rule = rule_of standing own (Some z.rule)
 
   within : p < length t
-  within = site-inside ks (fitting_of ks standing own si oi) t p f site
+  within = site-inside ks (fitting_of ks standing own si oi) t z site
 
   fitted : Fitted ks rule (drop p t)
-  fitted =
-      let found = site-found ks (fitting_of ks standing own si oi) t 0 p f site in
-      found-fits ks standing own si oi (drop p t) f found.0 found.1
+  fitted = found-fits ks standing own si oi (drop p t) (Some z.rule) (site-found ks (fitting_of ks standing own si oi) t 0 z site) refl
 
   is-left : left rule ≡ get_or t p 0 ∷ vars 64 n
   is-left = left_is rule (get_or t p 0) n c
@@ -126,7 +125,7 @@ module _ (ks standing own si oi t path : List ℕ) (room p m n : ℕ) (f : Fitti
       let b : ℕ = get_or rule (n + 3) 0 in (
         set t p b,
         (
-          next-ruled ks standing own si oi t p f site
+          next-ruled ks standing own si oi t z site
               ∙ renamed ks t p n (get_or t p 0) within refl plain c.few fit rule long whole is-left b (high-plain b r.high) (renaming-right rule (get_or t p 0) n c fitted.whole r),
           (omega (arith, fits-room, length-set t p b), refl),
         ),
@@ -140,7 +139,7 @@ module _ (ks standing own si oi t path : List ℕ) (room p m n : ℕ) (f : Fitti
   kept us = path-kept ks t (take p t ++ us) p (take_at (take p t) us p front) path m on.1 on.0 (omega (arith, front, length-append (take p t) us))
 
   -- THE STEPS OF A TEST that passes change one word
-  module _ (usual : Usual standing si oi) (r : Tests ks rule n) (q steps : ℕ) (there : past (arity_of ks) (drop (p + 1) t) (get_or rule (n + 5) 0 - 64) (p + 1) ≡ End q)
+  module _ (usual : Usual standing si oi) (r : Tests ks rule n) (q steps : ℕ) (there : past (arity_of ks) (drop (p + 1) t) (get_or rule (n + 5) 0 - 64) (p + 1) ≡ Some q)
       (value : Passes t q room steps) where
     abbrev b : ℕ
     b = get_or rule (n + 6) 0
@@ -159,13 +158,13 @@ module _ (ks standing own si oi t path : List ℕ) (room p m n : ℕ) (f : Fitti
     first : N t ≡ some (take p t ++ 7 ∷ 9 ∷ under)
     first =
         let v = value-skips ks t q e (get_or t e 0) refl value.value.inside refl value.value.base in
-        next-ruled ks standing own si oi t p f site
+        next-ruled ks standing own si oi t z site
         ∙ tested ks t p n (get_or t p 0) within refl plain c.few fit rule long whole is-left (get_or rule (n + 5) 0 - 64) b q (e + 1) r.bound (high-plain b r.high)
         (testing-right rule (get_or t p 0) n c fitted.whole ks r) there v.0
         ∙ ap (λ (l : List ℕ). some (take p t ++ 7 ∷ 9 ∷ (l ++ ws))) v.1
         ∙ ap (λ (l : List ℕ). some (take p t ++ 7 ∷ 9 ∷ l)) (append_snoc (replicate (e - q) 2) (get_or t e 0) ws)
 
-    term-left : (j : ℕ) × (past (arity_of ks) ws 1 0 ≡ End j)
+    term-left : (j : ℕ) × (past (arity_of ks) ws 1 0 ≡ Some j)
     unfolding skip_at
     term-left =
         let k = taken ks t p n (get_or t p 0) within refl plain c.few fit in
@@ -194,39 +193,33 @@ module _ (ks standing own si oi t path : List ℕ) (room p m n : ℕ) (f : Fitti
         )
 
 -- ---- a change at a site
--- no steps: no change
-pub no_change : (next : List ℕ → Option (List ℕ)) (room : ℕ) (s : Site) (t : List ℕ) → Changes next room s t (record { steps = 0; word = 0 })
-no_change next room (At p f) t = λ h. absurd (omega (arith, h))
-no_change next room Nothing t = refl
-
--- the site s of the term t is the place p, and r are the words of the rule that fits there
-module _ (ks standing own si oi t path : List ℕ) (room m n : ℕ) (s : Site) (sited : s ≡ site_at ks (fitting_of ks standing own si oi) t 0) (numbered : Numbered ks t path s m) (p : ℕ) (f : Fitting)
-    (is_at : s ≡ At p f) (fits-room : length t ≤ room) (r : List ℕ) (words : r ≡ rule_of standing own f) (c : Calls r (get_or t p 0) n) where
+-- the site s of the term t is z, and r are the words of the rule that fits there
+module _ (ks standing own : List ℕ) (si oi : List Span) (t path : List ℕ) (room m n : ℕ) (s : Maybe Site) (sited : s ≡ site_at ks (fitting_of ks standing own si oi) t 0) (numbered : Numbered ks t path s m) (z : Site)
+    (there : s ≡ Some z) (fits-room : length t ≤ room) (r : List ℕ) (words : r ≡ rule_of standing own (Some z.rule)) (c : Calls r (get_or t z.place 0) n) where
   abbrev next : List ℕ → Option (List ℕ)
   next = next_w ks standing own si oi
 
-  site : site_at ks (fitting_of ks standing own si oi) t 0 ≡ At p f
-  site = sym sited ∙ is_at
+  site : site_at ks (fitting_of ks standing own si oi) t 0 ≡ Some z
+  site = sym sited ∙ there
 
-  noted : (get_or path m 0 ≡ p) × OnPath ks t path m
-  noted = subst (λ (x : Site). Numbered ks t path x m) is_at numbered
+  noted : (get_or path m 0 ≡ z.place) × OnPath ks t path m
+  noted = subst (λ (x : Maybe Site). Numbered ks t path x m) there numbered
 
   -- what is so of the rule that the site has is so of r
-  said : (Said : List ℕ → Type 0) → (Calls (rule_of standing own f) (get_or t p 0) n → Said (rule_of standing own f)) → Said r
-  said Said h = subst Said (sym words) (h (subst (λ (l : List ℕ). Calls l (get_or t p 0) n) words c))
+  said : (Said : List ℕ → Type 0) → (Calls (rule_of standing own (Some z.rule)) (get_or t z.place 0) n → Said (rule_of standing own (Some z.rule))) → Said r
+  said Said h = subst Said (sym words) (h (subst (λ (l : List ℕ). Calls l (get_or t z.place 0) n) words c))
 
-  changes : (k : Change) → (0 < k.steps → Leads next room k.steps t (set t p k.word)) → Changes next room s t k
-  changes k h = subst (λ (x : Site). Changes next room x t k) (sym is_at) h
+  changes : (k : Change) → 0 < k.steps → Leads next room k.steps t (set t z.place k.word) → Changes next room s t (Some k)
+  changes k h l = subst (λ (x : Maybe Site). Changes next room x t (Some k)) (sym there) (h, l)
 
-  pub renaming-changes : Renames r n → Changes next room s t (record { steps = 1; word = get_or r (n + 3) 0 })
+  pub renaming-changes : Renames r n → Changes next room s t (Some (record { steps = 1; word = get_or r (n + 3) 0 }))
   renaming-changes e =
-      changes (record { steps = 1; word = get_or r (n + 3) 0 })
-      (λ h. said (λ (l : List ℕ). Renames l n → Leads next room 1 t (set t p (get_or l (n + 3) 0))) (rename-leads ks standing own si oi t path room p m n f site noted fits-room) e)
+      changes (record { steps = 1; word = get_or r (n + 3) 0 }) (omega arith)
+      (said (λ (l : List ℕ). Renames l n → Leads next room 1 t (set t z.place (get_or l (n + 3) 0))) (rename-leads ks standing own si oi t path room m n z site noted fits-room) e)
 
-  pub test-changes : Usual standing si oi → Tests ks r n → (o : Reach) → o ≡ past (arity_of ks) (drop (p + 1) t) (get_or r (n + 5) 0 - 64) (p + 1) → (q steps : ℕ) → o ≡ End q
-      → (0 < steps → Passes t q room steps) → Changes next room s t (record { steps = steps; word = get_or r (n + 6) 0 })
+  pub test-changes : Usual standing si oi → Tests ks r n → (o : Maybe ℕ) → o ≡ past (arity_of ks) (drop (z.place + 1) t) (get_or r (n + 5) 0 - 64) (z.place + 1) → (q steps : ℕ) → o ≡ Some q
+      → Passes t q room steps → Changes next room s t (Some (record { steps = steps; word = get_or r (n + 6) 0 }))
   test-changes usual e o reached q steps ends value =
-      changes (record { steps = steps; word = get_or r (n + 6) 0 })
-      (λ h.
-      said (λ (l : List ℕ). Tests ks l n → past (arity_of ks) (drop (p + 1) t) (get_or l (n + 5) 0 - 64) (p + 1) ≡ End q → Leads next room steps t (set t p (get_or l (n + 6) 0)))
-      (λ k e there. test-leads ks standing own si oi t path room p m n f site noted fits-room k usual e q steps there (value h)) e (sym reached ∙ ends))
+      changes (record { steps = steps; word = get_or r (n + 6) 0 }) (omega (arith, value.count))
+      (said (λ (l : List ℕ). Tests ks l n → past (arity_of ks) (drop (z.place + 1) t) (get_or l (n + 5) 0 - 64) (z.place + 1) ≡ Some q → Leads next room steps t (set t z.place (get_or l (n + 6) 0)))
+      (λ k e there. test-leads ks standing own si oi t path room m n z site noted fits-room k usual e q steps there value) e (sym reached ∙ ends))

@@ -1,30 +1,31 @@
 -- Steps in place: what each change keeps, and what is known where no further one is made.
 use mathlib.Core.Path.{◌≡◌, refl, sym, ap, subst, ◌∙◌}
-use mathlib.Core.Logic.{◌≢◌}
+use Rattle.std.proofs.lemmas.Option.{none-some}
 use mathlib.Core.Option.{Option}
 use mathlib.Core.List.{List}
 use Prim.Native.Nat.{ℕ, ◌+◌, ◌-◌, ◌≤◌, ◌<◌}
 use native.Mathlib.Omega.{arith}
 use lib.ListN.{length, get_or, take, drop, set, length-set}
 use lib.Seq.{length-take-le, take-set-le, take-set-lt, drop-set-lt}
+use Rattle.std.specs.Prelude.{Option as Maybe, Some, None}
 use Rattle.rules.specs.Finding.{fitting_of}
+use Rattle.rules.specs.declared.index.Span.{Span}
 use Rattle.rules.specs.declared.finding.Fitting.{Fitting}
 use Rattle.place.specs.Path.{site_at}
 use Rattle.place.specs.Noted.{OnPath, Numbered}
 use Rattle.place.specs.declared.Site.{Site}
-use Rattle.place.specs.declared.Site.TheVariants.{Nothing, At}
 use Rattle.place.proofs.Path.{site-inside}
 use Rattle.place.proofs.Noted.{number-within, path-kept}
 use Rattle.step.specs.Next.{next_w}
-use Rattle.in_place.specs.InPlace.{Leads, Changes, Passing}
+use Rattle.in_place.specs.InPlace.{Leads, Changes}
 use Rattle.in_place.specs.declared.Change.{Change}
 use Rattle.in_place.proofs.Changes.{leads-more}
 
-module _ (ks standing own si oi : List ℕ) (room left size : ℕ) (t₀ path₀ : List ℕ) where
+module _ (ks standing own : List ℕ) (si oi : List Span) (room left size : ℕ) (t₀ path₀ : List ℕ) where
   abbrev N : List ℕ → Option (List ℕ)
   N = next_w ks standing own si oi
 
-  abbrev F : List ℕ → Fitting
+  abbrev F : List ℕ → Maybe Fitting
   F = fitting_of ks standing own si oi
 
   -- so many steps lead from the first words of t₀ to those of t, and the path is noted up to number n; all else is as it came
@@ -36,35 +37,31 @@ module _ (ks standing own si oi : List ℕ) (room left size : ℕ) (t₀ path₀
     pub same : length t ≡ length t₀
     pub path-same : length path ≡ length path₀
 
-  pub going_start : (n : ℕ) → OnPath ks (take size t₀) path₀ n → Going t₀ path₀ 0 n
-  going_start n h = record { within = omega arith; leads = refl; rest = refl; on = h; same = refl; path-same = refl }
-
-  module _ (t path : List ℕ) (steps n : ℕ) (g : Going t path steps n) (s : Site) (number : ℕ) (new : List ℕ) (e : s ≡ site_at ks F (take size t) 0)
+  module _ (t path : List ℕ) (steps n : ℕ) (g : Going t path steps n) (s : Maybe Site) (number : ℕ) (new : List ℕ) (e : s ≡ site_at ks F (take size t) 0)
       (numbered : Numbered ks (take size t) new s number) where
-    -- no further change
-    pub stopped : Passing ks F N room left size t₀ t new (record { steps = steps; site = s; number = number })
-    stopped = record { within = g.within; leads = g.leads; rest = g.rest; site = e; numbered = numbered }
-
     -- a further change, of some steps
-    module _ (c : Change) (changes : Changes N room s (take size t) c) (some : c.steps ≢ 0) where
-      found : (r : Site) → s ≡ r → (p : ℕ) × ((f : Fitting) × (s ≡ At p f))
-      found (At p f) q = (p, (f, q))
-      found Nothing q = absurd (some (subst (λ (x : Site). Changes N room x (take size t) c) q changes))
+    module _ (c : Change) (changes : Changes N room s (take size t) (Some c)) where
+      found : (r : Maybe Site) → s ≡ r → (z : Site) × (s ≡ Some z)
+      found (Some z) q = (z, q)
+      found None q = absurd (none-some c (sym (subst (λ (x : Maybe Site). Changes N room x (take size t) (Some c)) q changes)))
+
+      abbrev z : Site
+      z = (found s refl).0
 
       abbrev p : ℕ
-      p = (found s refl).0
+      p = z.place
 
-      abbrev f : Fitting
-      f = (found s refl).1.0
-
-      is_at : s ≡ At p f
-      is_at = (found s refl).1.1
+      there : s ≡ Some z
+      there = (found s refl).1
 
       noted : (get_or new number 0 ≡ p) × OnPath ks (take size t) new number
-      noted = subst (λ (x : Site). Numbered ks (take size t) new x number) is_at numbered
+      noted = subst (λ (x : Maybe Site). Numbered ks (take size t) new x number) there numbered
 
       inside : p < length (take size t)
-      inside = site-inside ks F (take size t) p f (sym e ∙ is_at)
+      inside = site-inside ks F (take size t) z (sym e ∙ there)
+
+      leads-on : (0 < c.steps) × Leads N room c.steps (take size t) (set (take size t) p c.word)
+      leads-on = subst (λ (x : Maybe Site). Changes N room x (take size t) (Some c)) there changes
 
       module _ (fits : size ≤ length t) where
         long : length (take size t) ≡ size
@@ -84,7 +81,7 @@ module _ (ks standing own si oi : List ℕ) (room left size : ℕ) (t₀ path₀
         front = take-set-lt size t (get_or new number 0) c.word place-low ∙ ap (λ (i : ℕ). set (take size t) i c.word) noted.0
 
         leads-there : Leads N room c.steps (take size t) (take size u)
-        leads-there = subst (Leads N room c.steps (take size t)) (sym front) (subst (λ (x : Site). Changes N room x (take size t) c) is_at changes (omega (arith, some)))
+        leads-there = subst (Leads N room c.steps (take size t)) (sym front) leads-on.1
 
         kept : OnPath ks (take size u) new number
         kept =
@@ -92,8 +89,8 @@ module _ (ks standing own si oi : List ℕ) (room left size : ℕ) (t₀ path₀
             (ap (take p) front ∙ take-set-le p (take size t) p c.word (omega arith)) new number noted.1 noted.0
             (omega (arith, inside, ap length front, length-set (take size t) p c.word))
 
-        pub goes_on : c.steps ≤ left - steps → length new ≡ length path → (get_or new number 0 < size) × (number ≤ size) × Going u new (steps + c.steps) number
-        goes_on few l = (place-low, number-low, going)
+        pub goes_on : c.steps ≤ left - steps → length new ≡ length path → (get_or new number 0 < size) × (number ≤ size) × (0 < c.steps) × Going u new (steps + c.steps) number
+        goes_on few l = (place-low, number-low, leads-on.0, going)
           where
             going : Going u new (steps + c.steps) number
             going =

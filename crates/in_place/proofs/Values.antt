@@ -8,31 +8,29 @@ use Prim.Native.Nat.{ℕ, zero, suc, ◌+◌, ◌-◌, ◌≤◌, ◌<◌}
 use native.Mathlib.Omega.{arith}
 use lib.ListN.{length, get_or, take, drop, replicate, length-append, take-append-drop, length-replicate}
 use lib.Seq.{take-append_seam, drop-append_seam, drop-append-add, append_snoc}
+use Rattle.std.specs.Prelude.{Option as Maybe, Some, None}
 use Rattle.theory.specs.Tree.{active}
 use Rattle.theory.specs.Words.{is_var}
 use Rattle.theory.specs.Buffers.{part}
-use Rattle.words.specs.declared.terms.Reach.{Reach}
-use Rattle.words.specs.declared.terms.Reach.TheVariants.{End}
 use Rattle.words.specs.Terms.{arity_of, past, skip_at}
 use Rattle.words.proofs.Skips.{past-reach, past-later}
 use Rattle.words.proofs.Parts.{tail-part}
 use Rattle.rules.specs.Matching.{takes, reached, fits, binds}
-use Rattle.rules.specs.declared.matching.Bound.{Bound}
+use Rattle.rules.specs.Index.{no_span}
+use Rattle.rules.specs.declared.index.Span.{Span}
 use Rattle.rules.specs.Usual.{Base, opening, Spans, Usual}
-use Rattle.rules.specs.Finding.{first_fit, moved, first_at, fitting_of, is_found}
-use Rattle.rules.specs.declared.finding.Place.TheVariants.{Stored}
+use Rattle.rules.specs.Finding.{stored, first_fit, moved, first_at, fitting_of}
 use Rattle.rules.specs.declared.finding.Fitting.{Fitting}
-use Rattle.rules.specs.declared.finding.Fitting.TheVariants.{Standing, Nowhere}
+use Rattle.rules.specs.declared.finding.Fitting.TheVariants.{Standing}
 use Rattle.rules.proofs.Takes.{takes-var, takes_same, fits-end, fits_next, fits-other, binds-end, binds-var, binds-plain}
 use Rattle.rules.proofs.Walk.{at-found, at_next}
 use Rattle.rules.proofs.Placed.{found-in-standing}
 use Rattle.rules.proofs.Roots.{searched, unruled, usual-begins}
 use Rattle.place.specs.Path.{below, here_at, or_here, path, site_at}
 use Rattle.place.specs.Noted.{OnPath}
-use Rattle.place.proofs.Path.{below_none, here-fits, here-not}
+use Rattle.place.proofs.Path.{below_none, here-is}
 use Rattle.place.proofs.Noted.{site-top}
 use Rattle.place.specs.declared.Site.{Site}
-use Rattle.place.specs.declared.Site.TheVariants.{Nothing, At}
 use Rattle.splice.specs.Right.{new, word_for}
 use Rattle.step.specs.Next.{past_by, end_by, ruled, next_w}
 use Rattle.in_place.specs.InPlace.{Leads}
@@ -45,30 +43,31 @@ unfolding arity_of
 base-alone ks c h = elim h [ inl e ↦ ap (arity_of ks) e | inr k ↦ elim k [ inl e ↦ ap (arity_of ks) e | inr e ↦ ap (arity_of ks) e ] ]
 
 -- a value of k succs has a word more
-past_value : (ks : List ℕ) (k c : ℕ) (ws : List ℕ) (p : ℕ) → Base c → past (arity_of ks) (replicate k 2 ++ c ∷ ws) 1 p ≡ End (p + (k + 1))
+past_value : (ks : List ℕ) (k c : ℕ) (ws : List ℕ) (p : ℕ) → Base c → past (arity_of ks) (replicate k 2 ++ c ∷ ws) 1 p ≡ Some (p + (k + 1))
 unfolding past arity_of
 past_value ks zero c ws p h = ap (λ (n : ℕ). past (arity_of ks) ws (n + 0) (p + 1)) (base-alone ks c h) ∙ first ws
   where
-    first : (ws : List ℕ) → past (arity_of ks) ws 0 (p + 1) ≡ End (p + 1)
+    first : (ws : List ℕ) → past (arity_of ks) ws 0 (p + 1) ≡ Some (p + 1)
     first [] = refl
     first (w ∷ ws) = refl
-past_value ks (suc k) c ws p h = let z : p + 1 + (k + 1) ≡ p + (suc k + 1) = omega arith in past_value ks k c ws (p + 1) h ∙ ap End z
+past_value ks (suc k) c ws p h = let z : p + 1 + (k + 1) ≡ p + (suc k + 1) = omega arith in past_value ks k c ws (p + 1) h ∙ ap Some z
 
 -- ---- a left side of two words, or of two words and a variable, and a subject that begins with the two
-abbrev zeros : List ℕ
-zeros = replicate 8 0
+abbrev zeros : List Span
+zeros = replicate 8 no_span
 
-abbrev slots : ℕ → List ℕ
-slots n = n ∷ 0 ∷ 0 ∷ 0 ∷ 0 ∷ 0 ∷ 0 ∷ 0 ∷ []
+-- the first variable takes the words from 2 up to n
+abbrev slots : ℕ → List Span
+slots n = record { from = 2; to = n } ∷ no_span ∷ no_span ∷ no_span ∷ no_span ∷ no_span ∷ no_span ∷ no_span ∷ []
 
 module _ (ks : List ℕ) (a b : ℕ) (va : is_var a ≡ false) (vb : is_var b ≡ false) (ws : List ℕ) where
   abbrev S : List ℕ
   S = a ∷ b ∷ ws
 
-  takes_first : takes ks S a 0 ≡ End 1
+  takes_first : takes ks S a 0 ≡ Some 1
   takes_first = takes_same ks S a 0 va (omega arith) refl
 
-  takes-second : takes ks S b 1 ≡ End 2
+  takes-second : takes ks S b 1 ≡ Some 2
   takes-second = takes_same ks S b 1 vb (omega arith) refl
 
   fits-two : fits ks S (a ∷ b ∷ []) 0 ≡ true
@@ -77,14 +76,14 @@ module _ (ks : List ℕ) (a b : ℕ) (va : is_var a ≡ false) (vb : is_var b �
       ∙ fits_next ks S (a ∷ b ∷ []) 1 1 (omega arith) 2 takes-second
       ∙ fits-end ks S (a ∷ b ∷ []) 2 2 (omega arith)
 
-  binds-two : binds ks S (a ∷ b ∷ []) 0 zeros zeros ≡ record { starts = zeros; ends = zeros }
+  binds-two : binds ks S (a ∷ b ∷ []) 0 zeros ≡ zeros
   binds-two =
-      binds-plain ks S (a ∷ b ∷ []) 0 0 (omega arith) zeros zeros 1 va takes_first
-      ∙ binds-plain ks S (a ∷ b ∷ []) 1 1 (omega arith) zeros zeros 2 vb takes-second
-      ∙ binds-end ks S (a ∷ b ∷ []) 2 2 zeros zeros (omega arith)
+      binds-plain ks S (a ∷ b ∷ []) 0 0 (omega arith) zeros 1 va takes_first
+      ∙ binds-plain ks S (a ∷ b ∷ []) 1 1 (omega arith) zeros 2 vb takes-second
+      ∙ binds-end ks S (a ∷ b ∷ []) 2 2 zeros (omega arith)
 
-  module _ (e : ℕ) (h : past (arity_of ks) ws 1 0 ≡ End e) where
-    takes-third : takes ks S 64 2 ≡ End (2 + e)
+  module _ (e : ℕ) (h : past (arity_of ks) ws 1 0 ≡ Some e) where
+    takes-third : takes ks S 64 2 ≡ Some (2 + e)
     unfolding skip_at
     takes-third = takes-var ks S 64 2 refl ∙ past-later (arity_of ks) ws 1 0 2 e h
 
@@ -95,12 +94,12 @@ module _ (ks : List ℕ) (a b : ℕ) (va : is_var a ≡ false) (vb : is_var b �
         ∙ fits_next ks S (a ∷ b ∷ 64 ∷ []) 2 2 (omega arith) (2 + e) takes-third
         ∙ fits-end ks S (a ∷ b ∷ 64 ∷ []) 3 (2 + e) (omega arith)
 
-    binds-three : binds ks S (a ∷ b ∷ 64 ∷ []) 0 zeros zeros ≡ record { starts = slots 2; ends = slots (2 + e) }
+    binds-three : binds ks S (a ∷ b ∷ 64 ∷ []) 0 zeros ≡ slots (2 + e)
     binds-three =
-        binds-plain ks S (a ∷ b ∷ 64 ∷ []) 0 0 (omega arith) zeros zeros 1 va takes_first
-        ∙ binds-plain ks S (a ∷ b ∷ 64 ∷ []) 1 1 (omega arith) zeros zeros 2 vb takes-second
-        ∙ binds-var ks S (a ∷ b ∷ 64 ∷ []) 2 2 (omega arith) zeros zeros (2 + e) refl takes-third
-        ∙ binds-end ks S (a ∷ b ∷ 64 ∷ []) 3 (2 + e) (slots 2) (slots (2 + e)) (omega arith)
+        binds-plain ks S (a ∷ b ∷ 64 ∷ []) 0 0 (omega arith) zeros 1 va takes_first
+        ∙ binds-plain ks S (a ∷ b ∷ 64 ∷ []) 1 1 (omega arith) zeros 2 vb takes-second
+        ∙ binds-var ks S (a ∷ b ∷ 64 ∷ []) 2 2 (omega arith) zeros (2 + e) refl takes-third
+        ∙ binds-end ks S (a ∷ b ∷ 64 ∷ []) 3 (2 + e) (slots (2 + e)) (omega arith)
 
 -- ---- a rule used on the words ss, which stand behind some others
 module _ (ks front ss rule : List ℕ) where
@@ -114,13 +113,13 @@ module _ (ks front ss rule : List ℕ) where
   subject = tail-part t p ∙ drop-append_seam front ss
 
   ruled-behind : (l r : ℕ) → 2 ≤ length rule → l ≡ get_or rule 0 0 → r ≡ get_or rule 1 0 → 2 + l + r ≤ length rule
-      → (b : Bound) → b ≡ binds ks ss (take (2 + l - 2) (drop 2 rule)) 0 zeros zeros → (n : ℕ) → n ≡ end_by b.ends (take (2 + l - 2) (drop 2 rule)) 0 → n ≤ length ss
-      → ruled ks rule t p ≡ some (front ++ (new ss b.starts b.ends (take (2 + l + r - (2 + l)) (drop (2 + l) rule)) ++ drop n ss))
+      → (b : List Span) → b ≡ binds ks ss (take (2 + l - 2) (drop 2 rule)) 0 zeros → (n : ℕ) → n ≡ end_by b (take (2 + l - 2) (drop 2 rule)) 0 → n ≤ length ss
+      → ruled ks rule t p ≡ some (front ++ (new ss b (take (2 + l + r - (2 + l)) (drop (2 + l) rule)) ++ drop n ss))
   ruled-behind l r h el er k b q n qn g =
       let right : List ℕ = take (2 + l + r - (2 + l)) (drop (2 + l) rule) in
-      ruled-is ks rule t p h l r el er k b (q ∙ ap (λ (s : List ℕ). binds ks s (take (2 + l - 2) (drop 2 rule)) 0 zeros zeros) (sym subject)) n qn (omega (arith, g, length-append front ss))
-      ∙ ap₂ (λ (f s : List ℕ). some (f ++ (new s b.starts b.ends right ++ drop (p + n) t))) (take-append_seam front ss) subject
-      ∙ ap (λ (d : List ℕ). some (front ++ (new ss b.starts b.ends right ++ d))) (drop-append-add front ss n)
+      ruled-is ks rule t p h l r el er k b (q ∙ ap (λ (s : List ℕ). binds ks s (take (2 + l - 2) (drop 2 rule)) 0 zeros) (sym subject)) n qn (omega (arith, g, length-append front ss))
+      ∙ ap₂ (λ (f s : List ℕ). some (f ++ (new s b right ++ drop (p + n) t))) (take-append_seam front ss) subject
+      ∙ ap (λ (d : List ℕ). some (front ++ (new ss b right ++ d))) (drop-append-add front ss n)
 
 module _ (ks front ws : List ℕ) where
   -- what a variable behind two words takes, and what stands behind that
@@ -130,12 +129,12 @@ module _ (ks front ws : List ℕ) where
       let k : 2 + e ≡ suc (suc e) = omega arith in
       ap₂ (λ (n k : ℕ). (take n ws ++ []) ++ drop k (a ∷ b ∷ ws)) n k ∙ ap (λ (l : List ℕ). l ++ drop e ws) (append-nil (take e ws)) ∙ take-append-drop e ws
 
-  module _ (e : ℕ) (h : past (arity_of ks) ws 1 0 ≡ End e) where
+  module _ (e : ℕ) (h : past (arity_of ks) ws 1 0 ≡ Some e) where
     -- isData(succ(x)) -> isData(x)
     ruled-succ : ruled ks (3 ∷ 2 ∷ 9 ∷ 2 ∷ 64 ∷ 9 ∷ 64 ∷ []) (front ++ 9 ∷ 2 ∷ ws) (length front) ≡ some (front ++ 9 ∷ ws)
     unfolding end_by past_by word_for
     ruled-succ =
-        ruled-behind ks front (9 ∷ 2 ∷ ws) (3 ∷ 2 ∷ 9 ∷ 2 ∷ 64 ∷ 9 ∷ 64 ∷ []) 3 2 (omega arith) refl refl (omega arith) (record { starts = slots 2; ends = slots (2 + e) }) (sym (binds-three ks 9 2 refl refl ws e h)) (2 + e) refl
+        ruled-behind ks front (9 ∷ 2 ∷ ws) (3 ∷ 2 ∷ 9 ∷ 2 ∷ 64 ∷ 9 ∷ 64 ∷ []) 3 2 (omega arith) refl refl (omega arith) (slots (2 + e)) (sym (binds-three ks 9 2 refl refl ws e h)) (2 + e) refl
         (omega (arith, past-reach (arity_of ks) ws 1 0 e h))
         ∙ ap (λ (l : List ℕ). some (front ++ 9 ∷ l)) (third 9 2 e)
 
@@ -143,7 +142,7 @@ module _ (ks front ws : List ℕ) where
     ruled-guard : ruled ks (3 ∷ 1 ∷ 7 ∷ 5 ∷ 64 ∷ 64 ∷ []) (front ++ 7 ∷ 5 ∷ ws) (length front) ≡ some (front ++ ws)
     unfolding end_by past_by word_for
     ruled-guard =
-        ruled-behind ks front (7 ∷ 5 ∷ ws) (3 ∷ 1 ∷ 7 ∷ 5 ∷ 64 ∷ 64 ∷ []) 3 1 (omega arith) refl refl (omega arith) (record { starts = slots 2; ends = slots (2 + e) }) (sym (binds-three ks 7 5 refl refl ws e h)) (2 + e) refl
+        ruled-behind ks front (7 ∷ 5 ∷ ws) (3 ∷ 1 ∷ 7 ∷ 5 ∷ 64 ∷ 64 ∷ []) 3 1 (omega arith) refl refl (omega arith) (slots (2 + e)) (sym (binds-three ks 7 5 refl refl ws e h)) (2 + e) refl
         (omega (arith, past-reach (arity_of ks) ws 1 0 e h))
         ∙ ap (λ (l : List ℕ). some (front ++ l)) (third 7 5 e)
 
@@ -151,12 +150,16 @@ module _ (ks front ws : List ℕ) where
   ruled-base : (c : ℕ) → is_var c ≡ false → ruled ks (2 ∷ 1 ∷ 9 ∷ c ∷ 5 ∷ []) (front ++ 9 ∷ c ∷ ws) (length front) ≡ some (front ++ 5 ∷ ws)
   unfolding end_by word_for
   ruled-base c v =
-      ruled-behind ks front (9 ∷ c ∷ ws) (2 ∷ 1 ∷ 9 ∷ c ∷ 5 ∷ []) 2 1 (omega arith) refl refl (omega arith) (record { starts = zeros; ends = zeros }) (sym (binds-two ks 9 c refl v ws)) 2
+      ruled-behind ks front (9 ∷ c ∷ ws) (2 ∷ 1 ∷ 9 ∷ c ∷ 5 ∷ []) 2 1 (omega arith) refl refl (omega arith) zeros (sym (binds-two ks 9 c refl v ws)) 2
       (ap (λ (n : ℕ). n + 1) (past-plain zeros 9 0 refl) ∙ past-plain zeros c (past_by zeros 9 0) v) (omega arith)
 
 -- ---- what fits, where the lists are usual
-module _ (ks standing own si oi : List ℕ) (usual : Usual standing si oi) where
-  abbrev find : List ℕ → Fitting
+-- the rule of n words from word number at of the standing list on
+abbrev standing_rule : ℕ → ℕ → Fitting
+standing_rule at n = Standing (record { at = at; len = n })
+
+module _ (ks standing own : List ℕ) (si oi : List Span) (usual : Usual standing si oi) where
+  abbrev find : List ℕ → Maybe Fitting
   find = fitting_of ks standing own si oi
 
   begins : standing ≡ opening ++ drop 50 standing
@@ -164,9 +167,9 @@ module _ (ks standing own si oi : List ℕ) (usual : Usual standing si oi) where
 
   -- in the part of the list where the rules of the root stand
   finds : (a b : ℕ) (rules ss : List ℕ) (at n : ℕ) → Spans si (length standing) (get_or ss 0 0) a b
-      → take (b - a) (drop a standing) ≡ rules → first_fit ks rules ss ≡ Stored at n → find ss ≡ Standing (a + at) n
+      → take (b - a) (drop a standing) ≡ rules → first_fit ks rules ss ≡ stored at n → find ss ≡ Some (standing_rule (a + at) n)
   finds a b rules ss at n h e f =
-      let place : first_at ks standing si ss ≡ Stored (a + at) n =
+      let place : first_at ks standing si ss ≡ stored (a + at) n =
       searched ks standing si ss a b h ∙ ap (λ (l : List ℕ). moved a (first_fit ks l ss)) e ∙ ap (moved a) f in
       sym (found-in-standing ks standing own si oi ss refl place)
 
@@ -183,16 +186,16 @@ module _ (ks standing own si oi : List ℕ) (usual : Usual standing si oi) where
   tests-there = ap (λ (l : List ℕ). take 29 (drop 14 l)) begins
 
   -- tt has no rules
-  finds-none : (ws : List ℕ) → find (5 ∷ ws) ≡ Nowhere
+  finds-none : (ws : List ℕ) → find (5 ∷ ws) ≡ None
   finds-none ws = unruled ks standing own si oi 5 ws usual.no_standing usual.no_own
 
-  module _ (ws : List ℕ) (e : ℕ) (h : past (arity_of ks) ws 1 0 ≡ End e) where
-    finds-guard : find (7 ∷ 5 ∷ ws) ≡ Standing 0 6
+  module _ (ws : List ℕ) (e : ℕ) (h : past (arity_of ks) ws 1 0 ≡ Some e) where
+    finds-guard : find (7 ∷ 5 ∷ ws) ≡ Some (standing_rule 0 6)
     finds-guard =
         finds 0 14 guards (7 ∷ 5 ∷ ws) 0 6 usual.guards guards-there
         (at-found ks (7 ∷ 5 ∷ ws) guards 0 3 1 (omega arith) refl refl (omega arith) (fits-three ks 7 5 refl refl ws e h))
 
-    finds-succ : find (9 ∷ 2 ∷ ws) ≡ Standing 14 7
+    finds-succ : find (9 ∷ 2 ∷ ws) ≡ Some (standing_rule 14 7)
     finds-succ =
         finds 14 43 tests (9 ∷ 2 ∷ ws) 0 7 usual.tests tests-there
         (at-found ks (9 ∷ 2 ∷ ws) tests 0 3 2 (omega arith) refl refl (omega arith) (fits-three ks 9 2 refl refl ws e h))
@@ -200,7 +203,7 @@ module _ (ks standing own si oi : List ℕ) (usual : Usual standing si oi) where
   -- isData has a rule for each of 0, True and False
   record Tested (c : ℕ) (ws : List ℕ) : Type 0 where
     there : ℕ
-    fitting : find (9 ∷ c ∷ ws) ≡ Standing there 5
+    fitting : find (9 ∷ c ∷ ws) ≡ Some (standing_rule there 5)
     rule : take 5 (drop there standing) ≡ 2 ∷ 1 ∷ 9 ∷ c ∷ 5 ∷ []
     plain : is_var c ≡ false
 
@@ -253,8 +256,8 @@ module _ (ks standing own si oi : List ℕ) (usual : Usual standing si oi) where
         ]
 
 -- ---- the place below a guard, and the guard's own
-module _ (ks : List ℕ) (find : List ℕ → Fitting) (pre : List ℕ) where
-  abbrev below-it : ℕ → List ℕ → Site
+module _ (ks : List ℕ) (find : List ℕ → Maybe Fitting) (pre : List ℕ) where
+  abbrev below-it : ℕ → List ℕ → Maybe Site
   below-it w ws = here_at find (w ∷ ws) (length pre + 1)
 
   site-guard : (w : ℕ) (ws : List ℕ) → active w < 1 → site_at ks find (pre ++ 7 ∷ w ∷ ws) (length pre) ≡ or_here (below-it w ws) (here_at find (7 ∷ w ∷ ws) (length pre))
@@ -263,17 +266,17 @@ module _ (ks : List ℕ) (find : List ℕ → Fitting) (pre : List ℕ) where
       let z : length pre + 1 - (length pre + 1) ≡ 0 = omega arith in
       ap (λ (l : List ℕ). path ks find l 0 (length pre)) (drop-append_seam pre (7 ∷ w ∷ ws))
       ∙ ap (λ (g : ℕ). or_here (path ks find (w ∷ ws) g (length pre + 1)) (here_at find (7 ∷ w ∷ ws) (length pre))) z
-      ∙ ap (λ (r : Reach). or_here (or_here (reached r (λ q. path ks find ws (q - (length pre + 1 + 1)) (length pre + 1 + 1)) Nothing) (below-it w ws)) (here_at find (7 ∷ w ∷ ws) (length pre)))
+      ∙ ap (λ (r : Maybe ℕ). or_here (or_here (reached r (λ q. path ks find ws (q - (length pre + 1 + 1)) (length pre + 1 + 1)) None) (below-it w ws)) (here_at find (7 ∷ w ∷ ws) (length pre)))
       (below_none ks w ws (length pre + 1 + 1) h)
 
-  site-tested : (w : ℕ) (ws : List ℕ) (f : Fitting) → active w < 1 → find (w ∷ ws) ≡ f → is_found f ≡ true → site_at ks find (pre ++ 7 ∷ w ∷ ws) (length pre) ≡ At (length pre + 1) f
-  site-tested w ws f h e q = site-guard w ws h ∙ ap (λ (s : Site). or_here s (here_at find (7 ∷ w ∷ ws) (length pre))) (sym (here-fits ks find (w ∷ ws) (length pre + 1) f (sym e) q))
+  site-tested : (w : ℕ) (ws : List ℕ) (f : Fitting) → active w < 1 → find (w ∷ ws) ≡ Some f → site_at ks find (pre ++ 7 ∷ w ∷ ws) (length pre) ≡ Some (record { place = length pre + 1; rule = f })
+  site-tested w ws f h e = site-guard w ws h ∙ ap (λ (s : Maybe Site). or_here s (here_at find (7 ∷ w ∷ ws) (length pre))) (sym (here-is ks find (w ∷ ws) (length pre + 1) (sym e)))
 
-  site-passed : (w : ℕ) (ws : List ℕ) (f g : Fitting) → active w < 1 → find (w ∷ ws) ≡ f → is_found f ≡ false → find (7 ∷ w ∷ ws) ≡ g → is_found g ≡ true
-      → site_at ks find (pre ++ 7 ∷ w ∷ ws) (length pre) ≡ At (length pre) g
-  site-passed w ws f g h e q d r =
-      site-guard w ws h ∙ ap (λ (s : Site). or_here s (here_at find (7 ∷ w ∷ ws) (length pre))) (sym (here-not ks find (w ∷ ws) (length pre + 1) f (sym e) q))
-      ∙ sym (here-fits ks find (7 ∷ w ∷ ws) (length pre) g (sym d) r)
+  site-passed : (w : ℕ) (ws : List ℕ) (g : Fitting) → active w < 1 → find (w ∷ ws) ≡ None → find (7 ∷ w ∷ ws) ≡ Some g
+      → site_at ks find (pre ++ 7 ∷ w ∷ ws) (length pre) ≡ Some (record { place = length pre; rule = g })
+  site-passed w ws g h e d =
+      site-guard w ws h ∙ ap (λ (s : Maybe Site). or_here s (here_at find (7 ∷ w ∷ ws) (length pre))) (sym (here-is ks find (w ∷ ws) (length pre + 1) (sym e)))
+      ∙ sym (here-is ks find (7 ∷ w ∷ ws) (length pre) (sym d))
 
 -- a rule used below a guard
 ruled-below : (ks pre rule us vs : List ℕ) → ((front : List ℕ) → ruled ks rule (front ++ us) (length front) ≡ some (front ++ vs)) → ruled ks rule (pre ++ 7 ∷ us) (length pre + 1) ≡ some (pre ++ 7 ∷ vs)
@@ -282,23 +285,24 @@ ruled-below ks pre rule us vs h =
     ap₂ (ruled ks rule) (sym (append_snoc pre 7 us)) l ∙ h (pre ++ (7 ∷ [])) ∙ ap some (append_snoc pre 7 vs)
 
 -- ---- the steps
-module _ (ks standing own si oi : List ℕ) (usual : Usual standing si oi) (pre path : List ℕ) (m : ℕ) (on : (us : List ℕ) → OnPath ks (pre ++ us) path m) (at : get_or path m 0 ≡ length pre) where
+module _ (ks standing own : List ℕ) (si oi : List Span) (usual : Usual standing si oi) (pre path : List ℕ) (m : ℕ) (on : (us : List ℕ) → OnPath ks (pre ++ us) path m) (at : get_or path m 0 ≡ length pre) where
   abbrev N : List ℕ → Option (List ℕ)
   N = next_w ks standing own si oi
 
-  abbrev F : List ℕ → Fitting
+  abbrev F : List ℕ → Maybe Fitting
   F = fitting_of ks standing own si oi
 
-  next-at : (us : List ℕ) (q n i : ℕ) (rule : List ℕ) → site_at ks F (pre ++ us) (length pre) ≡ At q (Standing n i) → take i (drop n standing) ≡ rule → N (pre ++ us) ≡ ruled ks rule (pre ++ us) q
+  next-at : (us : List ℕ) (q n i : ℕ) (rule : List ℕ) → site_at ks F (pre ++ us) (length pre) ≡ Some (record { place = q; rule = standing_rule n i }) → take i (drop n standing) ≡ rule → N (pre ++ us) ≡ ruled ks rule (pre ++ us) q
   next-at us q n i rule e r =
-      let top = site-top ks F (pre ++ us) path m (on us) q (Standing n i) m (omega arith) (ap (site_at ks F (pre ++ us)) at ∙ e) in
-      next-ruled ks standing own si oi (pre ++ us) q (Standing n i) top ∙ ap (λ (l : List ℕ). ruled ks l (pre ++ us) q) r
+      let z : Site = record { place = q; rule = standing_rule n i } in
+      let top = site-top ks F (pre ++ us) path m (on us) z m (omega arith) (ap (site_at ks F (pre ++ us)) at ∙ e) in
+      next-ruled ks standing own si oi (pre ++ us) z top ∙ ap (λ (l : List ℕ). ruled ks l (pre ++ us) q) r
 
   -- guard(isData(succ(x)), y) -> guard(isData(x), y)
-  pub data-succ : (ws : List ℕ) (e : ℕ) → past (arity_of ks) ws 1 0 ≡ End e → N (pre ++ 7 ∷ 9 ∷ 2 ∷ ws) ≡ some (pre ++ 7 ∷ 9 ∷ ws)
+  pub data-succ : (ws : List ℕ) (e : ℕ) → past (arity_of ks) ws 1 0 ≡ Some e → N (pre ++ 7 ∷ 9 ∷ 2 ∷ ws) ≡ some (pre ++ 7 ∷ 9 ∷ ws)
   data-succ ws e h =
       let rule : List ℕ = 3 ∷ 2 ∷ 9 ∷ 2 ∷ 64 ∷ 9 ∷ 64 ∷ [] in
-      let site = site-tested ks F pre 9 (2 ∷ ws) (Standing 14 7) (omega arith) (finds-succ ks standing own si oi usual ws e h) refl in
+      let site = site-tested ks F pre 9 (2 ∷ ws) (standing_rule 14 7) (omega arith) (finds-succ ks standing own si oi usual ws e h) in
       next-at (7 ∷ 9 ∷ 2 ∷ ws) (length pre + 1) 14 7 rule site (ap (λ (l : List ℕ). take 7 (drop 14 l)) (begins ks standing own si oi usual))
       ∙ ruled-below ks pre rule (9 ∷ 2 ∷ ws) (9 ∷ ws) (λ front. ruled-succ ks front ws e h)
 
@@ -306,19 +310,19 @@ module _ (ks standing own si oi : List ℕ) (usual : Usual standing si oi) (pre 
   pub data-base : (c : ℕ) (ws : List ℕ) → Base c → N (pre ++ 7 ∷ 9 ∷ c ∷ ws) ≡ some (pre ++ 7 ∷ 5 ∷ ws)
   data-base c ws b =
       let t = base-tested ks standing own si oi usual ws c b in
-      let site = site-tested ks F pre 9 (c ∷ ws) (Standing t.there 5) (omega arith) t.fitting refl in
+      let site = site-tested ks F pre 9 (c ∷ ws) (standing_rule t.there 5) (omega arith) t.fitting in
       next-at (7 ∷ 9 ∷ c ∷ ws) (length pre + 1) t.there 5 (2 ∷ 1 ∷ 9 ∷ c ∷ 5 ∷ []) site t.rule
       ∙ ruled-below ks pre (2 ∷ 1 ∷ 9 ∷ c ∷ 5 ∷ []) (9 ∷ c ∷ ws) (5 ∷ ws) (λ front. ruled-base ks front ws c t.plain)
 
   -- guard(tt, y) -> y
-  pub guard_tt : (ws : List ℕ) (e : ℕ) → past (arity_of ks) ws 1 0 ≡ End e → N (pre ++ 7 ∷ 5 ∷ ws) ≡ some (pre ++ ws)
+  pub guard_tt : (ws : List ℕ) (e : ℕ) → past (arity_of ks) ws 1 0 ≡ Some e → N (pre ++ 7 ∷ 5 ∷ ws) ≡ some (pre ++ ws)
   guard_tt ws e h =
       let rule : List ℕ = 3 ∷ 1 ∷ 7 ∷ 5 ∷ 64 ∷ 64 ∷ [] in
-      let site = site-passed ks F pre 5 ws Nowhere (Standing 0 6) (omega arith) (finds-none ks standing own si oi usual ws) refl (finds-guard ks standing own si oi usual ws e h) refl in
+      let site = site-passed ks F pre 5 ws (standing_rule 0 6) (omega arith) (finds-none ks standing own si oi usual ws) (finds-guard ks standing own si oi usual ws e h) in
       next-at (7 ∷ 5 ∷ ws) (length pre) 0 6 rule site (ap (λ (l : List ℕ). take 6 (drop 0 l)) (begins ks standing own si oi usual)) ∙ ruled-guard ks pre ws e h
 
   -- THE VALUE IS PASSED: k succs and c under isData under guard, before the words ws
-  pub value_passes : (room k c : ℕ) (ws : List ℕ) (e : ℕ) → Base c → past (arity_of ks) ws 1 0 ≡ End e → length pre + (k + 3 + length ws) ≤ room
+  pub value_passes : (room k c : ℕ) (ws : List ℕ) (e : ℕ) → Base c → past (arity_of ks) ws 1 0 ≡ Some e → length pre + (k + 3 + length ws) ≤ room
       → Leads N room (k + 2) (pre ++ 7 ∷ 9 ∷ (replicate k 2 ++ c ∷ ws)) (pre ++ ws)
   value_passes room zero c ws e b h r =
       (pre ++ 7 ∷ 5 ∷ ws, (data-base c ws b, (omega (arith, r, length-append pre (7 ∷ 5 ∷ ws)), (pre ++ ws, (guard_tt ws e h, (omega (arith, r, length-append pre ws), refl))))))

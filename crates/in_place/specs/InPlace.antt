@@ -1,35 +1,30 @@
 -- Steps after which the term differs in one word: they are made where it stands. The rules are a call's first, f(x1..xn) -> f_1(x1..xn),
 -- and a test's, f_i(x1..xn) -> guard(isData(xi), f_i+1(x1..xn)), which leads to f_i+1(x1..xn) where xi is a value.
-use Rattle.std.specs.Prelude.{ℕ, zero, suc, ◌+◌, ◌-◌, ◌*◌, ◌≤◌, ◌<◌, ◌≡◌, List, [], ◌∷◌, length, get_or, take, drop, set}
+use Rattle.std.specs.Prelude.{Option as Maybe, Some, None, ℕ, zero, suc, ◌+◌, ◌-◌, ◌*◌, ◌≤◌, ◌<◌, ◌≡◌, List, [], ◌∷◌, length, get_or, take, drop, set}
 use Rattle.std.proofs.Math.Option.{Option, some}
 use Rattle.words.specs.Terms.{arity_of, succs_end}
 use Rattle.rules.specs.Usual.{Valued}
 use Rattle.rules.specs.declared.finding.Fitting.{Fitting}
 use Rattle.place.specs.declared.Site.{Site}
-use Rattle.place.specs.declared.Site.TheVariants.{Nothing, At}
 use Rattle.place.specs.Path.{site_at}
 use Rattle.place.specs.Noted.{Numbered}
 use Rattle.in_place.specs.declared.Change.{Change}
 use Rattle.in_place.specs.declared.Passed.{Passed}
-use Rattle.in_place.specs.declared.Seen.{Seen}
 
 -- the term t leads to u in m steps, and each term on the way fits the room
 abbrev pub Leads : (List ℕ → Option (List ℕ)) → ℕ → ℕ → List ℕ → List ℕ → Type 0
 Leads next room zero t u = t ≡ u
 Leads next room (suc m) t u = (v : List ℕ) × ((next t ≡ some v) × ((length v ≤ room) × Leads next room m v u))
 
--- a change at a site of the term t: so many steps lead to t with that word at the place; where nothing fits, there is none
-abbrev pub Changes : (List ℕ → Option (List ℕ)) → ℕ → Site → List ℕ → Change → Type 0
-Changes next room (At p f) t c = 0 < c.steps → Leads next room c.steps t (set t p c.word)
-Changes next room Nothing t c = c.steps ≡ 0
-
--- the change that was seen
-abbrev pub change_of : Seen → Change
-change_of r = record { steps = r.steps; word = r.word }
+-- a change at a site of the term t: so many steps, one at least, lead to t with that word at the place; where nothing fits, there is none
+abbrev pub Changes : (List ℕ → Option (List ℕ)) → ℕ → Maybe Site → List ℕ → Maybe Change → Type 0
+Changes next room (Some s) t (Some c) = (0 < c.steps) × Leads next room c.steps t (set t s.place c.word)
+Changes next room (Some s) t None = Unit {0}
+Changes next room None t c = c ≡ None
 
 -- steps are made in place, at most `left`: from the first `size` words of t to those of u, the others being left; what comes next is at
 -- the site, whose number on the path is noted
-pub record Passing (ks : List ℕ) (find : List ℕ → Fitting) (next : List ℕ → Option (List ℕ)) (room left size : ℕ) (t u path : List ℕ) (r : Passed) : Type 0 where
+pub record Passing (ks : List ℕ) (find : List ℕ → Maybe Fitting) (next : List ℕ → Option (List ℕ)) (room left size : ℕ) (t u path : List ℕ) (r : Passed) : Type 0 where
   pub within : r.steps ≤ left
   pub leads : Leads next room r.steps (take size t) (take size u)
   pub rest : drop size u ≡ drop size t

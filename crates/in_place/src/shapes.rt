@@ -3,8 +3,6 @@ ghost use Rattle.std.specs.Prelude.{◌≡◌, ◌↔◌, true, ◌+◌, ◌≤�
 ghost use Rattle.words.specs.Terms.{arity_of};
 ghost use Rattle.in_place.specs.InPlace.{vars, Calls, Renames, Tests};
 
-use numbers::size_of_word;
-use words::slices::same;
 use words::terms::arity;
 
 // The variables in order.
@@ -15,8 +13,7 @@ fn are_vars(words: &[u16], at: usize, n: usize) -> bool
     requires { (n ≤ 8) × (at + n ≤ length words.now) }
     ensures { (result ≡ true) ↔ (take n (drop at words.now) ≡ vars 64 n) }
 {
-    let to = at + n;
-    same(&words[at..to], &VARS[0..n])
+    words[at..at + n] == VARS[..n]
 }
 
 // The number of parts of the symbol w.
@@ -24,7 +21,7 @@ pub fn parts(arities: &[u8], w: u16) -> usize
     ensures value { result ≡ arity_of arities.now w }
     ensures small { result ≤ 255 }
 {
-    arity(arities, w) as usize
+    usize::from(arity(arities, w))
 }
 
 // Whether the rule's left side is a(x1..xn).
@@ -32,22 +29,12 @@ pub fn is_call(rule: &[u16], a: u16, n: usize) -> bool
     requires { n ≤ 255 }
     ensures { (result ≡ true) ↔ Calls rule.now a n }
 {
-    if 8 < n {
-        return false;
-    }
-    if a < 256 {
-        return false;
-    }
-    if rule.len() < n + 3 {
-        return false;
-    }
-    if size_of_word(rule[0]) != n + 1 {
-        return false;
-    }
-    if rule[2] != a {
-        return false;
-    }
-    are_vars(rule, 3, n)
+    n <= 8
+        && a >= 256
+        && rule.len() >= n + 3
+        && usize::from(rule[0]) == n + 1
+        && rule[2] == a
+        && are_vars(rule, 3, n)
 }
 
 // Whether its right side is b(x1..xn).
@@ -55,13 +42,7 @@ pub fn is_renaming(rule: &[u16], n: usize) -> bool
     requires { n ≤ 8 }
     ensures { (result ≡ true) ↔ Renames rule.now n }
 {
-    if rule.len() != 2 * n + 4 {
-        return false;
-    }
-    if rule[n + 3] < 256 {
-        return false;
-    }
-    are_vars(rule, n + 4, n)
+    rule.len() == 2 * n + 4 && rule[n + 3] >= 256 && are_vars(rule, n + 4, n)
 }
 
 // Whether its right side is guard(isData(x), b(x1..xn)), where x is one of the variables and b has n parts.
@@ -69,28 +50,12 @@ pub fn is_test(arities: &[u8], rule: &[u16], n: usize) -> bool
     requires { n ≤ 8 }
     ensures { (result ≡ true) ↔ Tests arities.now rule.now n }
 {
-    if rule.len() != 2 * n + 7 {
-        return false;
-    }
-    if rule[n + 3] != 7 {
-        return false;
-    }
-    if rule[n + 4] != 9 {
-        return false;
-    }
-    let x = rule[n + 5];
-    if x < 64 {
-        return false;
-    }
-    if n <= size_of_word(x - 64) {
-        return false;
-    }
-    let b = rule[n + 6];
-    if b < 256 {
-        return false;
-    }
-    if parts(arities, b) != n {
-        return false;
-    }
-    are_vars(rule, n + 7, n)
+    rule.len() == 2 * n + 7
+        && rule[n + 3] == 7
+        && rule[n + 4] == 9
+        && rule[n + 5] >= 64
+        && usize::from(rule[n + 5] - 64) < n
+        && rule[n + 6] >= 256
+        && parts(arities, rule[n + 6]) == n
+        && are_vars(rule, n + 7, n)
 }

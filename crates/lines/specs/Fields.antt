@@ -1,25 +1,14 @@
--- The fields of a line, and what reading one leaves in a buffer.
-use Rattle.std.specs.Prelude.{ℕ, suc, ◌≤◌, List, [], ◌∷◌, eqb, length}
-use Rattle.theory.specs.Syntax.{choose}
-use Rattle.theory.specs.Buffers.{put}
-use Rattle.lines.specs.declared.Decoded.{Decoded}
-use Rattle.lines.specs.declared.Decoded.TheVariants.{Bytes, Bad}
-use Rattle.lines.specs.Hex.{readable_of, pairs_of}
+-- What a field stands for.
+use Rattle.std.specs.Prelude.{ℕ, Option, Some, None, option_and_then, List, [], ◌∷◌, eqb, leb, length}
+use Rattle.theory.specs.Syntax.{pick}
+use Rattle.lines.specs.Hex.{pairs_of}
 
--- how many bytes stand before the first s
-unfoldable pub up_to : ℕ → List ℕ → ℕ
-up_to s [] = 0
-up_to s (b ∷ bs) = choose (eqb b s) (λ u. 0) (λ u. suc (up_to s bs))
+-- the bytes, where there are at most m
+abbrev pub at_most : ℕ → List ℕ → Option (List ℕ)
+at_most m bs = pick (leb (length bs) m) (Some bs) None
 
--- what reading the field f answers, with room for m bytes
-unfoldable pub decoded_of : List ℕ → ℕ → Decoded
-decoded_of f m = choose (readable_of f m) (λ u. Bytes (length (pairs_of f))) (λ u. Bad)
-
--- what the buffer holds then: the field's bytes and the rest as before, or all as before
-unfoldable pub written_of : List ℕ → List ℕ → List ℕ
-written_of f out = choose (readable_of f (length out)) (λ u. put 0 (pairs_of f) out) (λ u. out)
-
--- the bytes that were read lie within the m of the buffer
-abbrev pub Fits : Decoded → ℕ → Type 0
-Fits (Bytes n) m = n ≤ m
-Fits Bad m = Unit {0}
+-- the bytes that a field stands for, at most m: "-" for none, or digits, two to a byte, and some
+unfoldable pub decoded_of : ℕ → List ℕ → Option (List ℕ)
+decoded_of m [] = None
+decoded_of m (c ∷ []) = pick (eqb c 45) (Some []) None
+decoded_of m (h ∷ l ∷ cs) = option_and_then (at_most m) (pairs_of (h ∷ l ∷ cs))

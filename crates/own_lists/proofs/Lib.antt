@@ -1,4 +1,3 @@
--- What the checker's answer gives the translator, what both say of the own list, and the laws of what is told of words.
+-- What the checker's answer gives the translator, and what both say of the own list.
 mod Given
 mod Answers
-mod Sums

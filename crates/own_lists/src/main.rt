@@ -8,7 +8,7 @@ mod shown;
 
 use built::largest_program;
 use lists::{list_length, write_list, write_question};
-use shown::{show_answer, show_number, show_rules, show_words, sum_of, unchanged};
+use shown::{show_answer, show_rules, show_words, sum_of, unchanged};
 use std::io;
 
 fn figure2(rt: &impl Print) -> io::Result<()> {
@@ -18,8 +18,10 @@ fn figure2(rt: &impl Print) -> io::Result<()> {
     ];
     let mut own = [65535u16; 102];
     let answer = write_list(&program, &mut own);
+    println!(rt; "figure 2")?;
     show_rules(rt, &own)?;
     show_answer(rt, answer)?;
+    println!(rt)?;
     question(rt, &program)
 }
 
@@ -27,41 +29,35 @@ fn figure2(rt: &impl Print) -> io::Result<()> {
 fn question(rt: &impl Print, program: &[u8]) -> io::Result<()> {
     let asked = [0x19u8, 0, 0x10];
     let mut words = [0u16; 2];
-    let size = write_question(program, &asked, &mut words);
-    rt.write_all(b"\nquestion ")?;
-    show_number(rt, size)?;
-    rt.write_all(b"\n")?;
+    let size = write_question(program, &asked, &mut words).unwrap_or(0);
+    println!(rt; "question {size}")?;
     show_words(rt, &words)
 }
 
 // The list into all of a slice: the answer, and how many words are as they were.
-fn filled(rt: &impl Print, program: &[u8], own: &mut [u16]) -> io::Result<()> {
+fn show_filled(rt: &impl Print, program: &[u8], own: &mut [u16]) -> io::Result<()> {
     let answer = write_list(program, own);
     show_answer(rt, answer)?;
-    rt.write_all(b" unchanged ")?;
-    show_number(rt, unchanged(own))
+    let same = unchanged(own);
+    print!(rt; " unchanged {same}")
 }
 
 fn largest(rt: &impl Print) -> io::Result<()> {
-    let mut program = [0u8; 8192];
-    rt.write_all(b"bytes ")?;
-    show_number(rt, largest_program(&mut program))?;
-    rt.write_all(b"\nlength ")?;
-    show_number(rt, list_length(&program))?;
-    rt.write_all(b"\nexact: ")?;
+    let book = largest_program();
+    let program = book.bytes();
+    let bytes = program.len();
+    let length = list_length(program).unwrap_or(0);
+    print!(rt; "largest\nbytes {bytes}\nlength {length}\nexact: ")?;
     let mut own = [65535u16; 13263];
-    filled(rt, &program, &mut own)?;
-    rt.write_all(b" sum ")?;
-    show_number(rt, sum_of(&own))?;
-    rt.write_all(b"\none shorter: ")?;
+    show_filled(rt, program, &mut own)?;
+    let sum = sum_of(&own);
+    print!(rt; " sum {sum}\none shorter: ")?;
     let mut shorter = [65535u16; 13262];
-    filled(rt, &program, &mut shorter)?;
-    rt.write_all(b"\n")
+    show_filled(rt, program, &mut shorter)?;
+    println!(rt)
 }
 
 fn main(rt: HostRuntime) -> io::Result<()> {
-    rt.write_all(b"figure 2\n")?;
     figure2(&rt)?;
-    rt.write_all(b"largest\n")?;
     largest(&rt)
 }

@@ -1,116 +1,62 @@
 // Lists and answers on standard output.
-ghost use Rattle.std.specs.Prelude.{◌≡◌, ◌<◌, eqb, length};
-ghost use Rattle.theory.specs.Syntax.{pick};
+ghost use Rattle.std.specs.Prelude.{◌≡◌};
 ghost use Rattle.own_lists.specs.Shown.{unchanged_in, mixed_of, sum_from};
 
-use super::lists::Answer;
-use numbers::size_of_word;
-use std::io;
+use super::lists::NoList;
+use std::{fmt, io};
 
-pub(crate) fn show_number(rt: &impl Print, n: usize) -> io::Result<()> {
-    rt.print(n)
-}
-
-pub(crate) fn show_answer(rt: &impl Print, answer: Answer) -> io::Result<()> {
-    match answer {
-        Answer::Refused => rt.write_all(b"refused"),
-        Answer::Short => rt.write_all(b"short"),
-        Answer::Count(n) => {
-            rt.write_all(b"count ")?;
-            show_number(rt, n)
+impl fmt::Display for NoList {
+    fn fmt<W: fmt::Write>(&self, f: &mut fmt::Formatter<W>) -> fmt::Result {
+        match *self {
+            NoList::Refused => write!(f, "refused"),
+            NoList::Short => write!(f, "short"),
         }
     }
 }
 
-// Whether this is the last word of a rule: so many are left of it.
-fn behind(rt: &impl Print, left: usize) -> io::Result<()> {
-    if left == 1 {
-        rt.write_all(b"\n")
-    } else {
-        rt.write_all(b" ")
+// How many words were written, or why none.
+pub(crate) fn show_answer(rt: &impl Print, answer: Result<usize, NoList>) -> io::Result<()> {
+    match answer {
+        Ok(n) => print!(rt; "count {n}"),
+        Err(e) => print!(rt; "{e}"),
     }
 }
 
-// How many words the rule at i has, its two counts among them.
-fn rule_size(own: &[u16], i: usize) -> usize
-    requires { i < length own.now }
-    ensures { 0 < result }
-{
-    if i + 1 < own.len() {
-        return 2 + size_of_word(own[i]) + size_of_word(own[i + 1]);
-    }
-    1
-}
-
-// So many words are left of the rule; where none is, the next begins at i.
-fn left_at(own: &[u16], i: usize, left: usize) -> usize
-    requires { i < length own.now }
-    ensures { 0 < result }
-{
-    if left == 0 {
-        return rule_size(own, i);
-    }
-    left
-}
-
-// A rule to a line.
+// A rule to a line. Its two counts stand before its words.
 pub(crate) fn show_rules(rt: &impl Print, own: &[u16]) -> io::Result<()> {
-    let mut i = 0;
-    let mut left = 0;
-    while i < own.len() {
-        let here = left_at(own, i, left);
-        show_number(rt, size_of_word(own[i]))?;
-        behind(rt, here)?;
-        left = here - 1;
-        i += 1;
+    let mut rest = own;
+    while let [left, right, ..] = rest {
+        let size = 2 + usize::from(*left) + usize::from(*right);
+        let (rule, behind) = rest.split_at(size.min(rest.len()));
+        show_words(rt, rule)?;
+        rest = behind;
     }
     Ok(())
 }
 
 // Words to a line.
-pub(crate) fn show_words(rt: &impl Print, ws: &[u16]) -> io::Result<()> {
-    let mut i = 0;
-    while i < ws.len() {
-        show_number(rt, size_of_word(ws[i]))?;
-        i += 1;
-        behind(rt, ws.len() - i + 1)?;
+pub(crate) fn show_words(rt: &impl Print, words: &[u16]) -> io::Result<()> {
+    for (i, word) in words.iter().enumerate() {
+        if i > 0 {
+            print!(rt; " ")?;
+        }
+        print!(rt; "{word}")?;
     }
-    Ok(())
+    println!(rt)
 }
 
 // How many words are as they were before.
 pub(crate) fn unchanged(own: &[u16]) -> usize
     ensures { result ≡ unchanged_in own.now }
 {
-    let mut count = 0;
-    let mut i = 0;
-    while i < own.len() {
-        count += same(own[i]);
-        i += 1;
-    }
-    count
-}
-
-fn same(w: u16) -> usize
-    ensures { result ≡ pick (eqb w 65535) 1 0 }
-{
-    if w == 65535 {
-        return 1;
-    }
-    0
+    own.iter().filter(|w| **w == 65535).count()
 }
 
 // One number by which lists that differ are told apart.
 pub(crate) fn sum_of(own: &[u16]) -> usize
     ensures { result ≡ sum_from 0 own.now }
 {
-    let mut sum = 0;
-    let mut i = 0;
-    while i < own.len() {
-        sum = mixed(sum, size_of_word(own[i]));
-        i += 1;
-    }
-    sum
+    own.iter().fold(0, |sum, w| mixed(sum, usize::from(*w)))
 }
 
 fn mixed(sum: usize, w: usize) -> usize

@@ -2,7 +2,7 @@
 use mathlib.Core.Path.{◌≡◌, refl, sym, ap, subst, ◌∙◌}
 use mathlib.Core.Bool.{Bool, true, false}
 use mathlib.Core.List.{List, [], ◌∷◌}
-use mathlib.Core.Logic.{◌≢◌}
+use mathlib.Core.Logic.{◌≢◌, ◌⊎◌, inl, inr}
 use Prim.Native.Nat.{ℕ, zero, suc, ◌+◌, ◌-◌, ◌≤◌, ◌<◌}
 use native.Mathlib.Nat.{sub-zero, zero-sub}
 use native.Mathlib.Numerals.{add-one}
@@ -11,19 +11,15 @@ use lib.Dec.{ltb}
 use lib.ListN.{length, get_or, take, drop, set}
 use lib.Seq.{get_or-take, get_or-set_same, get_or-set_other, take-take, take-nil}
 use borrow.Author.Tests.{lt-ltb, le-ltb, ltb-true, ltb-false}
+use Rattle.std.specs.Prelude.{Option, Some, None, is_some}
 use Rattle.theory.specs.Syntax.{pick}
 use Rattle.theory.specs.Tree.{active}
-use Rattle.words.specs.declared.terms.Reach.{Reach}
-use Rattle.words.specs.declared.terms.Reach.TheVariants.{End, Short}
 use Rattle.words.specs.Terms.{arity_of, past}
 use Rattle.words.proofs.Skips.{past-front}
-use Rattle.rules.specs.Finding.{is_found}
 use Rattle.rules.specs.declared.finding.Fitting.{Fitting}
-use Rattle.rules.specs.declared.finding.Fitting.TheVariants.{Nowhere}
-use Rattle.place.specs.Path.{below, below_at, here_at, here_in, is_at, site_at}
+use Rattle.place.specs.Path.{below, below_at, site_of, here_at, here_in, site_at}
 use Rattle.place.specs.Noted.{OnPath, Numbered}
 use Rattle.place.specs.declared.Site.{Site}
-use Rattle.place.specs.declared.Site.TheVariants.{Nothing, At}
 use Rattle.place.proofs.Path.{below-reach, below-further, site-out, site-short, site-deeper, site-here}
 
 -- ---- the places of a noted path
@@ -58,12 +54,12 @@ module _ (ks ws path : List ℕ) (n : ℕ) (h : OnPath ks ws path n) where
   path-up i k = record { root = h.root; ends = omega (arith, place-below i k, h.ends); steps = λ j l. h.steps j (omega arith) }
 
   -- one place more
-  pub path-down : (at p : ℕ) → at ≡ get_or path n 0 → at < length ws → below_at ks ws at ≡ End p → (n + 1 ≤ p) × ((at < p) × (p ≤ length ws))
+  pub path-down : (at p : ℕ) → at ≡ get_or path n 0 → at < length ws → below_at ks ws at ≡ Some p → (n + 1 ≤ p) × ((at < p) × (p ≤ length ws))
   path-down at p e k b =
-      let r = below-further ks (λ ss. Nowhere) ws at k p b in
+      let r = below-further ks (λ ss. None) ws at k p b in
       (omega (arith, r, e, number-low n (omega arith)), r)
 
-  noted : (p : ℕ) → below_at ks ws (get_or path n 0) ≡ End p → n + 1 < length path → p ≤ length ws → OnPath ks ws (set path (n + 1) p) (n + 1)
+  noted : (p : ℕ) → below_at ks ws (get_or path n 0) ≡ Some p → n + 1 < length path → p ≤ length ws → OnPath ks ws (set path (n + 1) p) (n + 1)
   noted p e k l =
       let same : get_or (set path (n + 1) p) (n + 1) 0 ≡ p = get_or-set_same path (n + 1) p 0 k in
       record { root = old 0 (omega arith) ∙ h.root; ends = subst (λ (q : ℕ). q ≤ length ws) (sym same) l; steps = λ i m. go i m (ltb i n) refl same }
@@ -71,13 +67,13 @@ module _ (ks ws path : List ℕ) (n : ℕ) (h : OnPath ks ws path n) where
       old : (i : ℕ) → i < n + 1 → get_or (set path (n + 1) p) i 0 ≡ get_or path i 0
       old i m = get_or-set_other path (n + 1) i p 0 (λ e. absurd (omega arith))
 
-      go : (i : ℕ) → i < n + 1 → (b : Bool) → ltb i n ≡ b → get_or (set path (n + 1) p) (n + 1) 0 ≡ p → below_at ks ws (get_or (set path (n + 1) p) i 0) ≡ End (get_or (set path (n + 1) p) (i + 1) 0)
-      go i m true t same = ap (below_at ks ws) (old i m) ∙ h.steps i (ltb-true i n t) ∙ ap End (sym (old (i + 1) (let z : i < n = ltb-true i n t in omega arith)))
+      go : (i : ℕ) → i < n + 1 → (b : Bool) → ltb i n ≡ b → get_or (set path (n + 1) p) (n + 1) 0 ≡ p → below_at ks ws (get_or (set path (n + 1) p) i 0) ≡ Some (get_or (set path (n + 1) p) (i + 1) 0)
+      go i m true t same = ap (below_at ks ws) (old i m) ∙ h.steps i (ltb-true i n t) ∙ ap Some (sym (old (i + 1) (let z : i < n = ltb-true i n t in omega arith)))
       go i m false t same =
           let z : i ≡ n = let y : n ≤ i = ltb-false i n t in omega arith in
-          ap (below_at ks ws) (old i m ∙ ap (λ (j : ℕ). get_or path j 0) z) ∙ e ∙ ap End (sym (ap (λ (j : ℕ). get_or (set path (n + 1) p) (j + 1) 0) z ∙ same))
+          ap (below_at ks ws) (old i m ∙ ap (λ (j : ℕ). get_or path j 0) z) ∙ e ∙ ap Some (sym (ap (λ (j : ℕ). get_or (set path (n + 1) p) (j + 1) 0) z ∙ same))
 
-  pub path-noted : (at p : ℕ) → at ≡ get_or path n 0 → at < length ws → below_at ks ws at ≡ End p → length ws < length path
+  pub path-noted : (at p : ℕ) → at ≡ get_or path n 0 → at < length ws → below_at ks ws at ≡ Some p → length ws < length path
       → OnPath ks ws (set path (n + 1) p) (n + 1) × (p ≡ get_or (set path (n + 1) p) (n + 1) 0)
   path-noted at p e k b l =
       let r = path-down at p e k b in
@@ -89,17 +85,21 @@ pub path-root : (ks ws path : List ℕ) → get_or path 0 0 ≡ 0 → OnPath ks 
 path-root ks ws path e = record { root = e; ends = subst (λ (q : ℕ). q ≤ length ws) (sym e) (omega arith); steps = λ i k. absurd (omega arith) }
 
 -- ---- what fits on it
-module _ (ks : List ℕ) (find : List ℕ → Fitting) (ws : List ℕ) where
+abbrev place_or : ℕ → Option Site → ℕ
+place_or d (Some s) = s.place
+place_or d None = d
+
+module _ (ks : List ℕ) (find : List ℕ → Option Fitting) (ws : List ℕ) where
   pub here-inside : (at : ℕ) → at < length ws → here_at find (drop at ws) at ≡ here_in find ws at
   unfolding here_in
-  here-inside at h = sym (ap (λ (b : Bool). pick b (here_at find (drop at ws) at) Nothing) (lt-ltb at (length ws) h))
+  here-inside at h = sym (ap (λ (b : Bool). pick b (here_at find (drop at ws) at) None) (lt-ltb at (length ws) h))
 
-  pub here-outside : (at : ℕ) → length ws ≤ at → Nothing ≡ here_in find ws at
+  pub here-outside : (at : ℕ) → length ws ≤ at → None ≡ here_in find ws at
   unfolding here_in
-  here-outside at h = sym (ap (λ (b : Bool). pick b (here_at find (drop at ws) at) Nothing) (le-ltb at (length ws) h))
+  here-outside at h = sym (ap (λ (b : Bool). pick b (here_at find (drop at ws) at) None) (le-ltb at (length ws) h))
 
   -- where the path goes no further, only the place itself is left
-  pub site-deepest : (at : ℕ) → (at < length ws → below_at ks ws at ≡ Short) → site_at ks find ws at ≡ here_in find ws at
+  pub site-deepest : (at : ℕ) → (at < length ws → below_at ks ws at ≡ None) → site_at ks find ws at ≡ here_in find ws at
   site-deepest at d = go (ltb at (length ws)) refl
     where
       go : (b : Bool) → ltb at (length ws) ≡ b → site_at ks find ws at ≡ here_in find ws at
@@ -107,61 +107,49 @@ module _ (ks : List ℕ) (find : List ℕ → Fitting) (ws : List ℕ) where
       go false t = let h = ltb-false at (length ws) t in site-out ks find ws at h ∙ here-outside at h
 
   -- what fits here is at this place
-  pub here_place : (at p : ℕ) (f : Fitting) → here_in find ws at ≡ At p f → at ≡ p
+  pub here_place : (at : ℕ) (t : Site) → here_in find ws at ≡ Some t → at ≡ t.place
   unfolding here_in here_at
-  here_place at p f e = go (ltb at (length ws)) (is_found (find (drop at ws))) e
+  here_place at t e = go (ltb at (length ws)) (find (drop at ws)) e
     where
-      never : {A : Type 0} → Nothing ≡ At p f → A
-      never e = absurd (let z : ◌≡◌ {A = ℕ} 0 1 = cc in omega arith)
-
-      go : (a b : Bool) → pick a (pick b (At at (find (drop at ws))) Nothing) Nothing ≡ At p f → at ≡ p
-      go true true e = cc
-      go true false e = never e
-      go false b e = never e
+      go : (a : Bool) (f : Option Fitting) → pick a (site_of at f) None ≡ Some t → at ≡ t.place
+      go true (Some f) e = ap (place_or 0) e
+      go true None e = cc
+      go false f e = cc
 
   module _ (path : List ℕ) (n : ℕ) (h : OnPath ks ws path n) where
     -- where nothing fits below a noted place, only the place itself is left
-    pub site-up : (i : ℕ) → i < n → site_at ks find ws (get_or path (i + 1) 0) ≡ Nothing → site_at ks find ws (get_or path i 0) ≡ here_in find ws (get_or path i 0)
+    pub site-up : (i : ℕ) → i < n → site_at ks find ws (get_or path (i + 1) 0) ≡ None → site_at ks find ws (get_or path i 0) ≡ here_in find ws (get_or path i 0)
     site-up i k e =
         let inside = place_inside ks ws path n h i k in
         site-here ks find ws (get_or path i 0) inside (get_or path (i + 1) 0) (h.steps i k) e ∙ here-inside (get_or path i 0) inside
 
     -- what fits at or below a noted place is the deepest from the root
-    pub site-top : (p : ℕ) (f : Fitting) (i : ℕ) → i ≤ n → site_at ks find ws (get_or path i 0) ≡ At p f → site_at ks find ws 0 ≡ At p f
-    site-top p f zero k e = sym (ap (site_at ks find ws) h.root) ∙ e
-    site-top p f (suc i) k e =
+    pub site-top : (t : Site) (i : ℕ) → i ≤ n → site_at ks find ws (get_or path i 0) ≡ Some t → site_at ks find ws 0 ≡ Some t
+    site-top t zero k e = sym (ap (site_at ks find ws) h.root) ∙ e
+    site-top t (suc i) k e =
         let inside = place_inside ks ws path n h i (omega arith) in
-        site-top p f i (omega arith)
-        (site-deeper ks find ws (get_or path i 0) inside (get_or path (i + 1) 0) p f (h.steps i (omega arith)) (ap (λ (j : ℕ). site_at ks find ws (get_or path j 0)) (add-one i) ∙ e))
+        site-top t i (omega arith)
+        (site-deeper ks find ws (get_or path i 0) inside (get_or path (i + 1) 0) t (h.steps i (omega arith)) (ap (λ (j : ℕ). site_at ks find ws (get_or path j 0)) (add-one i) ∙ e))
 
-    -- on the way up, at the place number i: a rule fits there; none does and it is the root; none does and it is not
-    module _ (i : ℕ) (k : i ≤ n) (left : site_at ks find ws (get_or path i 0) ≡ here_in find ws (get_or path i 0)) (s : Site) (here : s ≡ here_in find ws (get_or path i 0)) where
-      pub climb-found : is_at s ≡ true → (s ≡ site_at ks find ws 0) × Numbered ks ws path s i
-      climb-found = go s here
+    -- on the way up, at the place number i: a rule fits there, or it is the root; none does and it is not
+    module _ (i : ℕ) (k : i ≤ n) (left : site_at ks find ws (get_or path i 0) ≡ here_in find ws (get_or path i 0)) (s : Option Site) (here : s ≡ here_in find ws (get_or path i 0)) where
+      pub climb-done : (is_some s ≡ true) ⊎ (i ≡ 0) → (s ≡ site_at ks find ws 0) × Numbered ks ws path s i
+      climb-done = go s here
         where
-          go : (s : Site) → s ≡ here_in find ws (get_or path i 0) → is_at s ≡ true → (s ≡ site_at ks find ws 0) × Numbered ks ws path s i
-          go (At p f) e t = (sym (site-top p f i k (left ∙ sym e)), (here_place (get_or path i 0) p f (sym e), path-up ks ws path n h i k))
-          go Nothing e t = absurd (let z : ◌≡◌ {A = ℕ} 0 1 = cc in omega arith)
+          go : (s : Option Site) → s ≡ here_in find ws (get_or path i 0) → (is_some s ≡ true) ⊎ (i ≡ 0) → (s ≡ site_at ks find ws 0) × Numbered ks ws path s i
+          go (Some t) e d = (sym (site-top t i k (left ∙ sym e)), (here_place (get_or path i 0) t (sym e), path-up ks ws path n h i k))
+          go None e (inl d) = cc
+          go None e (inr z) = (e ∙ sym left ∙ ap (λ (j : ℕ). site_at ks find ws (get_or path j 0)) z ∙ ap (site_at ks find ws) h.root, tt)
 
-      nothing : is_at s ≡ false → site_at ks find ws (get_or path i 0) ≡ Nothing
-      nothing t = left ∙ sym here ∙ go s t
-        where
-          go : (s : Site) → is_at s ≡ false → s ≡ Nothing
-          go (At p f) t = absurd (let z : ◌≡◌ {A = ℕ} 0 1 = cc in omega arith)
-          go Nothing t = refl
-
-      pub climb-ended : is_at s ≡ false → i ≡ 0 → (s ≡ site_at ks find ws 0) × Numbered ks ws path s 0
-      climb-ended t z = go s (here ∙ sym left ∙ ap (λ (j : ℕ). site_at ks find ws (get_or path j 0)) z ∙ ap (site_at ks find ws) h.root) t
-        where
-          go : (s : Site) → s ≡ site_at ks find ws 0 → is_at s ≡ false → (s ≡ site_at ks find ws 0) × Numbered ks ws path s 0
-          go (At p f) e t = absurd (let z : ◌≡◌ {A = ℕ} 0 1 = cc in omega arith)
-          go Nothing e t = (e, tt)
-
-      pub climb-on : is_at s ≡ false → i ≢ 0 → site_at ks find ws (get_or path (i - 1) 0) ≡ here_in find ws (get_or path (i - 1) 0)
+      pub climb-on : is_some s ≡ false → i ≢ 0 → site_at ks find ws (get_or path (i - 1) 0) ≡ here_in find ws (get_or path (i - 1) 0)
       climb-on t z =
           let pos : 0 < i = omega arith in
           let e : i - 1 + 1 ≡ i = omega arith in
-          site-up (i - 1) (omega arith) (ap (λ (j : ℕ). site_at ks find ws (get_or path j 0)) e ∙ nothing t)
+          site-up (i - 1) (omega arith) (ap (λ (j : ℕ). site_at ks find ws (get_or path j 0)) e ∙ left ∙ sym here ∙ go s t)
+        where
+          go : (s : Option Site) → is_some s ≡ false → s ≡ None
+          go (Some f) t = cc
+          go None t = refl
 
 -- ---- a step leaves the path up to the rewritten place
 drop-take : (a q : ℕ) (l : List ℕ) → drop a (take q l) ≡ take (q - a) (drop a l)
@@ -180,16 +168,16 @@ module _ (ks ws us : List ℕ) (p : ℕ) (front : take p us ≡ take p ws) where
       part_of : (l : List ℕ) → drop a (take q (take p l)) ≡ take (q - a) (drop a l)
       part_of l = ap (drop a) (take-take q p l h) ∙ drop-take a q l
 
-  below-kept : (a q : ℕ) → below_at ks ws a ≡ End q → q ≤ p → below_at ks us a ≡ End q
+  below-kept : (a q : ℕ) → below_at ks ws a ≡ Some q → q ≤ p → below_at ks us a ≡ Some q
   unfolding below
   below-kept a q e h =
       let r = below-reach ks (get_or ws a 0) (drop (a + 1) ws) (a + 1) q e in
       ap (λ (w : ℕ). below ks w (drop (a + 1) us) (a + 1)) (same_word a (omega arith)) ∙ go (ltb (active (get_or ws a 0)) 1) (ltb (arity_of ks (get_or ws a 0)) (active (get_or ws a 0))) (same-behind (a + 1) q h (omega arith)) e
     where
-      rest : List ℕ → Reach
+      rest : List ℕ → Option ℕ
       rest l = past (arity_of ks) l (active (get_or ws a 0) - 1) (a + 1)
 
-      go : (x y : Bool) → take (q - (a + 1)) (drop (a + 1) us) ≡ take (q - (a + 1)) (drop (a + 1) ws) → pick x Short (pick y Short (rest (drop (a + 1) ws))) ≡ End q → pick x Short (pick y Short (rest (drop (a + 1) us))) ≡ End q
+      go : (x y : Bool) → take (q - (a + 1)) (drop (a + 1) us) ≡ take (q - (a + 1)) (drop (a + 1) ws) → pick x None (pick y None (rest (drop (a + 1) ws))) ≡ Some q → pick x None (pick y None (rest (drop (a + 1) us))) ≡ Some q
       go true y same k = k
       go false true same k = k
       go false false same k = past-front (arity_of ks) (drop (a + 1) ws) (drop (a + 1) us) (active (get_or ws a 0) - 1) (a + 1) q k same

@@ -8,6 +8,7 @@ use native.Mathlib.Nat.{add-zero}
 use native.Mathlib.Omega.{arith}
 use lib.Dec.{leb}
 use lib.ListN.{get_or, drop}
+use Rattle.std.specs.Prelude.{Option as Maybe, Some, None, is_some, unwrap_or}
 use Rattle.theory.specs.Syntax.{or_else}
 use Rattle.theory.specs.Tree.{Tree, Trees, var, node, [·], ◌▹◌, no_subst, match, Rule, filled, first_fit, active, size, len}
 use Rattle.theory.specs.Words.{words, all_words, is_var, Shaped, Shapeds}
@@ -17,19 +18,17 @@ use Rattle.theory.proofs.Tests.{le-of-leb, lt-of-leb}
 use Rattle.theory.proofs.Shape.{head_sym, ShapedRules}
 use Rattle.theory.proofs.Place.{Site, shift, root_site, site, site_part}
 use Rattle.theory.proofs.Active.{active-none}
-use Rattle.words.specs.declared.terms.Reach.TheVariants.{End}
 use Rattle.words.specs.Terms.{arity_of, past}
 use Rattle.words.proofs.Skips.{past-none}
 use Rattle.words.proofs.Trees.{past_words}
-use Rattle.rules.specs.Finding.{is_found}
 use Rattle.rules.specs.declared.finding.Fitting.{Fitting}
+use Rattle.rules.specs.declared.finding.Fitting.TheVariants.{Standing}
 use Rattle.rules.proofs.Match.{WordAt, word_at, past-tree}
 use Rattle.rules.proofs.Stored.{Rooted}
 use Rattle.rules.proofs.Found.{Picked}
-use Rattle.place.specs.Path.{here_at, or_here, site_at}
-use Rattle.place.specs.declared.Site.{Site as Where}
-use Rattle.place.specs.declared.Site.TheVariants.{Nothing, At}
-use Rattle.place.proofs.Path.{below_none, below-few, below-past, site-short, site-deep, here-fits, here-not}
+use Rattle.place.specs.Path.{site_of, here_at, or_here, site_at}
+use Rattle.place.specs.declared.Site.{Site as Found}
+use Rattle.place.proofs.Path.{below_none, below-few, below-past, site-short, site-deep, here-is}
 
 -- no part has the number 0, or one past the last
 part_none : (root : Tree → Option Tree) (ts : Trees) → site_part root ts 0 ≡ none
@@ -51,30 +50,34 @@ var-none parts (r ∷ rs) h k x = go r.lhs h.0 k.0 (var-none parts rs h.2 k.1 x)
     go (var y) s i e = absurd (false≢true (sym i ∙ is_var-word y s))
     go (node n ts) s i e = e
 
-is_some : (o : Option Tree) → IsSome o → (u : Tree) × (o ≡ some u)
-is_some none h = absurd h
-is_some (some u) h = (u, refl)
+the_tree : (o : Option Tree) → IsSome o → (u : Tree) × (o ≡ some u)
+the_tree none h = absurd h
+the_tree (some u) h = (u, refl)
+
+-- a place with the rule that was found for it; with any where none was
+abbrev pub ruled_at : ℕ → Maybe Fitting → Maybe Found
+ruled_at p f = Some (record { place = p; rule = unwrap_or f (Standing (record { at = 0; len = 0 })) })
 
 -- `find` gives, at each tree's words, the first of the rules that fits the tree; its words are what `rule` gives
-module _ (ks : List ℕ) (rs : List Rule) (find : List ℕ → Fitting) (rule : Fitting → List ℕ)
-    (found : (t : Tree) → Shaped (arity_of ks) t → (rest : List ℕ) → Picked ks t rs (rule (find (words t ++ rest))) (is_found (find (words t ++ rest)))) (vars : (x : ℕ) → first_fit rs (var x) ≡ none)
+module _ (ks : List ℕ) (rs : List Rule) (find : List ℕ → Maybe Fitting) (rule : Maybe Fitting → List ℕ)
+    (found : (t : Tree) → Shaped (arity_of ks) t → (rest : List ℕ) → Picked ks t rs (rule (find (words t ++ rest))) (is_some (find (words t ++ rest)))) (vars : (x : ℕ) → first_fit rs (var x) ≡ none)
     (ws : List ℕ) where
   abbrev root : Tree → Option Tree
   root = first_fit rs
 
-  abbrev S : ℕ → Where
+  abbrev S : ℕ → Maybe Found
   S at = site_at ks find ws at
 
-  abbrev H : ℕ → Where
+  abbrev H : ℕ → Maybe Found
   H at = here_at find (drop at ws) at
 
   -- a place, with what is found there
-  abbrev pub with_rule : ℕ → Where
-  with_rule p = At p (find (drop p ws))
+  abbrev pub with_rule : ℕ → Maybe Found
+  with_rule p = ruled_at p (find (drop p ws))
 
   -- where a site is, the tree standing at the place p
-  abbrev pub where_is : ℕ → Option Site → Where
-  where_is p none = Nothing
+  abbrev pub where_is : ℕ → Option Site → Maybe Found
+  where_is p none = None
   where_is p (some z) = with_rule (p + z.place)
 
   where-shift : (p n : ℕ) (z : Option Site) → where_is (p + n) z ≡ where_is p (shift n z)
@@ -86,17 +89,14 @@ module _ (ks : List ℕ) (rs : List Rule) (find : List ℕ → Fitting) (rule : 
   where-or p (some z) b = refl
 
   -- at the place itself
-  here-is : (t : Tree) (at : ℕ) (rest : List ℕ) → Shaped (arity_of ks) t → drop at ws ≡ words t ++ rest → H at ≡ where_is at (root_site t (root t))
-  here-is t at rest ht e = go (is_found (find (words t ++ rest))) refl (found t ht rest)
+  here_is : (t : Tree) (at : ℕ) (rest : List ℕ) → Shaped (arity_of ks) t → drop at ws ≡ words t ++ rest → H at ≡ where_is at (root_site t (root t))
+  here_is t at rest ht e = sym (here-is ks find (drop at ws) at refl) ∙ ap (site_of at) (ap find e) ∙ go (find (words t ++ rest)) refl (found t ht rest)
     where
-      go : (b : Bool) → is_found (find (words t ++ rest)) ≡ b → Picked ks t rs (rule (find (words t ++ rest))) b → H at ≡ where_is at (root_site t (root t))
-      go true q c =
-          let u = is_some (first_fit rs t) (subst IsSome (sym c.fit) c.applies) in
-          sym (here-fits ks find (drop at ws) at (find (drop at ws)) refl (ap (λ (l : List ℕ). is_found (find l)) e ∙ q)) ∙ ap with_rule (sym (add-zero at))
-          ∙ ap (λ (o : Option Tree). where_is at (root_site t o)) (sym u.1)
-      go false q c =
-          sym (here-not ks find (drop at ws) at (find (drop at ws)) refl (ap (λ (l : List ℕ). is_found (find l)) e ∙ q))
-          ∙ ap (λ (o : Option Tree). where_is at (root_site t o)) (sym c)
+      go : (f : Maybe Fitting) → find (words t ++ rest) ≡ f → Picked ks t rs (rule f) (is_some f) → site_of at f ≡ where_is at (root_site t (root t))
+      go (Some f) q c =
+          let u = the_tree (first_fit rs t) (subst IsSome (sym c.fit) c.applies) in
+          sym (ap (λ (g : Maybe Fitting). ruled_at at g) (ap find e ∙ q)) ∙ ap with_rule (sym (add-zero at)) ∙ ap (λ (o : Option Tree). where_is at (root_site t o)) (sym u.1)
+      go None q c = ap (λ (o : Option Tree). where_is at (root_site t o)) (sym c)
 
   var-active : (x : ℕ) → x < 8 → active (64 + x) < 1
   var-active x h = subst (λ (n : ℕ). n < 1) (active-none (64 + x) (omega arith) (λ e. omega arith) (λ e. omega arith) (λ e. omega arith) (λ e. omega arith) (λ e. omega arith)) (omega arith)
@@ -104,7 +104,7 @@ module _ (ks : List ℕ) (rs : List Rule) (find : List ℕ → Fitting) (rule : 
   -- what stands where the path goes on
   record Part (ts : Trees) (i p : ℕ) : Type 0 where
     at : ℕ
-    ends : past (arity_of ks) (drop p ws) i p ≡ End at
+    ends : past (arity_of ks) (drop p ws) i p ≡ Some at
     sited : S at ≡ where_is p (site_part root ts (suc i))
 
   tests : (s : ℕ) (ts : Trees) (at : ℕ) (rest : List ℕ) → Shaped (arity_of ks) (node s ts) → drop at ws ≡ s ∷ (all_words ts ++ rest)
@@ -138,7 +138,7 @@ module _ (ks : List ℕ) (rs : List Rule) (find : List ℕ → Fitting) (rule : 
           site-deep ks find ws at w.within f.at
           (below-past ks (get_or ws at 0) (drop (at + 1) ws) (at + 1) some-part enough
           ∙ ap (λ (n : ℕ). past (arity_of ks) (drop (at + 1) ws) n (at + 1)) (ap (λ (n : ℕ). n - 1) act ∙ m) ∙ f.ends)
-          ∙ ap (λ (x : Where). or_here x (H at)) (f.sited ∙ where-shift at 1 (site_part root ts (suc i)))
+          ∙ ap (λ (x : Maybe Found). or_here x (H at)) (f.sited ∙ where-shift at 1 (site_part root ts (suc i)))
       go false l =
           let k : len ts < suc i = lt-of-leb (suc i) (len ts) l in
           let few : arity_of ks (get_or ws at 0) < active (get_or ws at 0) = subst₂ (λ (a b : ℕ). a < b) (sym parts) (sym act) k in
@@ -151,11 +151,11 @@ module _ (ks : List ℕ) (rs : List Rule) (find : List ℕ → Fitting) (rule : 
         let w = word_at ws at (64 + x) rest e in
         let n : active (get_or ws at 0) < 1 = subst (λ (k : ℕ). active k < 1) (sym w.word) (var-active x h) in
         site-short ks find ws at w.within (below_none ks (get_or ws at 0) (drop (at + 1) ws) (at + 1) n)
-        ∙ here-is (var x) at rest h e ∙ ap (λ (o : Option Tree). where_is at (root_site (var x) o)) (vars x)
+        ∙ here_is (var x) at rest h e ∙ ap (λ (o : Option Tree). where_is at (root_site (var x) o)) (vars x)
     site-is (node s ts) at rest h e =
         let w = word_at ws at s (all_words ts ++ rest) e in
         tests s ts at rest h e (λ i k. parts_are ts i (at + 1) rest h.2 w.behind k) (active s) refl
-        ∙ ap (or_here (where_is at (shift 1 (site_part root ts (active s))))) (here-is (node s ts) at rest h e)
+        ∙ ap (or_here (where_is at (shift 1 (site_part root ts (active s))))) (here_is (node s ts) at rest h e)
         ∙ where-or at (shift 1 (site_part root ts (active s))) (root_site (node s ts) (root (node s ts)))
 
     parts_are : (ts : Trees) (i p : ℕ) (rest : List ℕ) → Shapeds (arity_of ks) ts → drop p ws ≡ all_words ts ++ rest → suc i ≤ len ts → Part ts i p

@@ -1,6 +1,6 @@
 -- The laws of records by place.
 use Prim.Native.Nat.{ℕ, zero, suc, ◌+◌, ◌-◌, ◌≤◌, ◌<◌}
-use mathlib.Core.Path.{◌≡◌, refl, ap, ◌∙◌}
+use mathlib.Core.Path.{◌≡◌, refl, sym, ap, ◌∙◌, subst}
 use mathlib.Core.Bool.{Bool, true, false, ◌||◌}
 use mathlib.Core.List.{List, [], ◌∷◌}
 use native.Mathlib.Omega.{arith}
@@ -10,19 +10,24 @@ use borrow.Author.Tests.{ne_eqb}
 use Rattle.theory.proofs.Lists.{drop-next}
 use Rattle.theory.specs.Syntax.{pick}
 use Rattle.theory.specs.Bytes.{body_length, NextRecord, none_left, cut_short, next_is, with_body, next_record}
+use Rattle.std.specs.Prelude.{Option, Some, None}
+use Rattle.record.specs.declared.Kind.{Kind}
+use Rattle.record.specs.declared.Kind.TheVariants.{Exception, Function, Rule, Variable, Raise, Handle, Builtin, Call}
 use Rattle.record.specs.declared.Record.{Record}
+use Rattle.record.specs.Kind.{byte_of}
 use Rattle.record.specs.Record.{record_of, record_at}
 
--- the kinds with no body
-pub no_body : (k : ℕ) → (k ≡ 1 → ⊥) → (k ≡ 2 → ⊥) → (k ≡ 3 → ⊥) → (k ≡ 0x14 → ⊥) → (k ≡ 0x15 → ⊥) → (k ≡ 0x16 → ⊥) → (k ≡ 0x18 → ⊥) → (k ≡ 0x19 → ⊥) → body_length k ≡ 0
-no_body k a b c d e f g h =
-    simp (ne_eqb k 1 a, ne_eqb k 2 b, ne_eqb k 3 c, ne_eqb k 0x14 d, ne_eqb k 0x15 e, ne_eqb k 0x16 f, ne_eqb k 0x18 g, ne_eqb k 0x19 h)
+-- what is no kind has no body
+pub no_body : (n : ℕ) → ((k : Kind) → byte_of k ≡ n → ⊥) → body_length n ≡ 0
+no_body n none =
+    let other : (k : Kind) → eqb n (byte_of k) ≡ false = λ k. ne_eqb n (byte_of k) (λ e. none k (sym e)) in
+    simp (other Exception, other Function, other Rule, other Variable, other Raise, other Handle, other Builtin, other Call)
 
 pick-most : (b : Bool) (x y : ℕ) → x ≤ 2 → y ≤ 2 → pick b x y ≤ 2
 pick-most true x y h k = h
 pick-most false x y h k = k
 
-pub nothing_left : (ws : List ℕ) (p : ℕ) → length ws ≤ p → record_at ws p ≡ record { kind = 0; body = 0; second = 0; len = 0 }
+pub nothing_left : (ws : List ℕ) (p : ℕ) → length ws ≤ p → record_at ws p ≡ None
 unfolding record_at
 nothing_left ws p h = rw (drop_of_length-le ws h)
 
@@ -41,36 +46,35 @@ body-most k =
     pick-most (eqb k 2) 2 _ (omega arith)
     (pick-most (eqb k 1 || eqb k 3 || eqb k 0x14 || eqb k 0x15 || eqb k 0x16 || eqb k 0x18 || eqb k 0x19) 1 0 (omega arith) (omega arith))
 
-module _ (ws : List ℕ) (p : ℕ) (n : ℕ) (body : n ≡ body_length (get_or ws p 0)) where
-  next-at : p < length ws → next_record (drop p ws) ≡ with_body (get_or ws p 0) n (drop (p + 1) ws)
-  next-at h = rw (drop-next ws p h, body)
+-- the record that begins with the byte k, of which n are its body's
+module _ (ws : List ℕ) (p k n : ℕ) (first : k ≡ get_or ws p 0) (body : n ≡ body_length k) where
+  next-at : p < length ws → next_record (drop p ws) ≡ with_body k n (drop (p + 1) ws)
+  next-at h = rw (drop-next ws p h, body, first)
 
-  pub cut-short : p < length ws → length ws - p ≤ n → record_at ws p ≡ record { kind = 0; body = 0; second = 0; len = 0 }
+  pub cut-short : p < length ws → length ws ≤ p + n → record_at ws p ≡ None
   unfolding record_at
-  cut-short h k = ap record_of (next-at h ∙ bodied-short _ n (drop (p + 1) ws) (rw length-drop (omega arith)) (rw body (body-most (get_or ws p 0))))
+  cut-short h l = ap record_of (next-at h ∙ bodied-short _ n (drop (p + 1) ws) (rw length-drop (omega arith)) (rw body (body-most k)))
 
-  pub bare : p < length ws → n ≡ 0 → record_at ws p ≡ record { kind = get_or ws p 0; body = 0; second = 0; len = 1 }
+  pub bare : p < length ws → n ≡ 0 → record_at ws p ≡ Some (record { kind = k; body = 0; second = 0; len = n + 1 })
   unfolding record_at
-  bare h e = ap record_of (next-at h ∙ ap (λ i. with_body (get_or ws p 0) i (drop (p + 1) ws)) e)
+  bare h e = ap record_of (next-at h ∙ ap (λ i. with_body k i (drop (p + 1) ws)) e) ∙ ap (λ i. Some (record { kind = k; body = 0; second = 0; len = i + 1 })) (sym e)
 
-  pub with-one : n < length ws - p → n ≡ 1 → record_at ws p ≡ record { kind = get_or ws p 0; body = get_or ws (p + 1) 0; second = 0; len = 2 }
-  unfolding record_at
-  with-one h e =
-      let l : p < length ws = omega arith in
-      let m : p + 1 < length ws = omega arith in
-      ap record_of (next-at l ∙ ap (λ i. with_body (get_or ws p 0) i (drop (p + 1) ws)) e ∙ ap (with_body (get_or ws p 0) 1) (drop-next ws (p + 1) m))
+  module _ (b : ℕ) (more : p + 1 < length ws) (second : b ≡ get_or ws (p + 1) 0) where
+    pub with-one : n ≡ 1 → record_at ws p ≡ Some (record { kind = k; body = b; second = 0; len = n + 1 })
+    unfolding record_at
+    with-one e =
+        let l : p < length ws = omega arith in
+        rw (e, second) (ap record_of (next-at l ∙ ap (λ i. with_body k i (drop (p + 1) ws)) e ∙ ap (with_body k 1) (drop-next ws (p + 1) more)))
 
-  pub with_two : n < length ws - p → (n ≡ 0 → ⊥) → (n ≡ 1 → ⊥) → record_at ws p ≡ record { kind = get_or ws p 0; body = get_or ws (p + 1) 0; second = get_or ws (p + 2) 0; len = 3 }
-  unfolding record_at
-  with_two h e0 e1 =
-      let most : n ≤ 2 = rw body (body-most (get_or ws p 0)) in
-      let e : n ≡ 2 = omega arith in
-      let l : p < length ws = omega arith in
-      let m : p + 1 < length ws = omega arith in
-      let m2 : p + 2 < length ws = omega arith in
-      let z : p + 1 + 1 ≡ p + 2 = omega arith in
-      let d = drop-next ws (p + 1) m ∙ ap (λ i. get_or ws (p + 1) 0 ∷ drop i ws) z ∙ ap (λ r. get_or ws (p + 1) 0 ∷ r) (drop-next ws (p + 2) m2) in
-      ap record_of (next-at l ∙ ap (λ i. with_body (get_or ws p 0) i (drop (p + 1) ws)) e ∙ ap (with_body (get_or ws p 0) 2) d)
+    pub with_two : (c : ℕ) → p + 2 < length ws → c ≡ get_or ws (p + 2) 0 → 2 ≤ n → record_at ws p ≡ Some (record { kind = k; body = b; second = c; len = n + 1 })
+    unfolding record_at
+    with_two c m third two =
+        let most : n ≤ 2 = rw body (body-most k) in
+        let e : n ≡ 2 = omega arith in
+        let l : p < length ws = omega arith in
+        let z : p + 1 + 1 ≡ p + 2 = omega arith in
+        let d = drop-next ws (p + 1) more ∙ ap (λ i. get_or ws (p + 1) 0 ∷ drop i ws) z ∙ ap (λ r. get_or ws (p + 1) 0 ∷ r) (drop-next ws (p + 2) m) in
+        rw (e, second, third) (ap record_of (next-at l ∙ ap (λ i. with_body k i (drop (p + 1) ws)) e ∙ ap (with_body k 2) d))
 
 -- behind a record stand the bytes past its length, which is 1 at least
 abbrev pub Behind : List ℕ → NextRecord → Type 0
@@ -90,14 +94,17 @@ pub behind : (l : List ℕ) → Behind l (next_record l)
 behind [] = tt
 behind (k ∷ bs) = behind-body k (body_length k) bs
 
-len-most : (l : List ℕ) (o : NextRecord) → Behind l o → (record_of o).len ≤ length l
-len-most l none_left h = omega arith
-len-most l cut_short h = omega arith
-len-most l (next_is k b c n bs) h = h.2
+-- a record has a byte at least, and none past the end
+Inside : ℕ → Option Record → Type 0
+Inside n None = Unit {0}
+Inside n (Some r) = (0 < r.len) × (r.len ≤ n)
 
-pub record-most : (ws : List ℕ) (p : ℕ) → (record_at ws p).len ≤ length ws - p
-unfolding record_at
-record-most ws p = rw length-drop at (len-most (drop p ws) (next_record (drop p ws)) (behind (drop p ws)))
+inside-next : (l : List ℕ) (o : NextRecord) → Behind l o → Inside (length l) (record_of o)
+unfolding Inside
+inside-next l none_left h = tt
+inside-next l cut_short h = tt
+inside-next l (next_is k b c n bs) h = (h.1, h.2)
 
-pub record-fits : (ws : List ℕ) (p : ℕ) (r : Record) → r ≡ record_at ws p → r.len ≤ length ws - p
-record-fits ws p r e = rw e (record-most ws p)
+pub record-fits : (ws : List ℕ) (p : ℕ) (r : Record) → record_at ws p ≡ Some r → (0 < r.len) × (r.len ≤ length ws - p)
+unfolding record_at Inside
+record-fits ws p r e = rw length-drop at (subst (Inside (length (drop p ws))) e (inside-next (drop p ws) (next_record (drop p ws)) (behind (drop p ws))))

@@ -1,2 +1,3 @@
 -- The definitions that contracts cite.
+pub mod Kind
 pub mod Record

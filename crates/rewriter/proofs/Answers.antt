@@ -28,7 +28,9 @@ use Rattle.rewriter.specs.Meaning.{const_of, end_of, said_of, answer_of}
 use Rattle.rewriter.specs.declared.ending.Said.{Said as CodeSaid}
 use Rattle.rewriter.specs.declared.ending.Said.TheVariants.{Value, Raised, Stuck}
 use Rattle.rewriter.proofs.Endings.{root-1, root-3, root-4, root-6, root-other}
-use Rattle.rules.specs.Finding.{fitting_of, is_found, rule_of}
+use Rattle.std.specs.Prelude.{is_some}
+use Rattle.rules.specs.Finding.{fitting_of, rule_of}
+use Rattle.rules.specs.declared.index.Span.{Span}
 use Rattle.rules.proofs.Found.{Picked}
 use Rattle.turns.proofs.TreeRun.{ending_of, last_of, keeps, run_is}
 
@@ -165,8 +167,8 @@ module _ (ks : List ℕ) where
   said-is out_of_steps t h e = refl
   said-is too_big t h e = refl
 
-  module _ (st own si oi : List ℕ) (rs : List Rule) (proper : ProperRules rs) (hs : ShapedRules (arity_of ks) rs)
-      (found : (t : Tree) → Shaped (arity_of ks) t → (rest : List ℕ) → let f = fitting_of ks st own si oi (words t ++ rest) in Picked ks t rs (rule_of st own f) (is_found f))
+  module _ (st own : List ℕ) (si oi : List Span) (rs : List Rule) (proper : ProperRules rs) (hs : ShapedRules (arity_of ks) rs)
+      (found : (t : Tree) → Shaped (arity_of ks) t → (rest : List ℕ) → let f = fitting_of ks st own si oi (words t ++ rest) in Picked ks t rs (rule_of st own f) (is_some f))
       (vars : (x : ℕ) → first_fit rs (var x) ≡ none) (room : ℕ) where
     abbrev root : Tree → Option Tree
     root = first_fit rs

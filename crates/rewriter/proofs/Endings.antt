@@ -1,31 +1,24 @@
 -- The laws of reading an ending off the words.
-use mathlib.Core.Path.{◌≡◌, refl, sym, ap, ◌∙◌}
+use mathlib.Core.Path.{◌≡◌, refl, sym, ap, subst, ◌∙◌}
 use mathlib.Core.Logic.{◌≢◌}
-use mathlib.Core.Bool.{Bool}
+use mathlib.Core.Bool.{Bool, true, false, not}
 use mathlib.Core.List.{List, [], ◌∷◌}
-use Prim.Native.Nat.{ℕ, zero, suc, ◌+◌, ◌-◌, ◌≤◌, ◌<◌}
+use Prim.Native.Nat.{ℕ, suc, ◌+◌, ◌-◌, ◌≤◌}
+use native.Mathlib.Nat.{add-zero, zero-add, sub-zero}
+use native.Mathlib.Numerals.{add-one}
+use native.Mathlib.Omega.{arith}
 use lib.Dec.{eqb}
-use lib.ListN.{length, get_or, drop, drop_of_length-le}
-use Rattle.theory.proofs.Lists.{drop-next}
+use lib.ListN.{length, get_or}
+use Rattle.std.specs.Prelude.{Option, Some, None, cond, position}
+use Rattle.std.specs.List.{position_from}
+use Rattle.std.proofs.lemmas.Iterator.Adapters.{position_from-zero}
 use Rattle.theory.specs.Syntax.{pick}
-use Rattle.theory.proofs.Tests.{eqb-true, eqb-false, leb-true, leb-false}
-use Rattle.rewriter.specs.Read.{fire_w, fired_w, root_w, read_w}
-use Rattle.rewriter.specs.declared.ending.Base.TheVariants as b
-use Rattle.rewriter.specs.declared.ending.Said.TheVariants.{Value, Raised, Stuck}
+use Rattle.theory.proofs.Tests.{eqb-false}
+use Rattle.rewriter.specs.Read.{fired_w, root_w, read_w}
+use Rattle.words.specs.declared.base.Base.TheVariants as b
+use Rattle.rewriter.specs.declared.ending.Said.TheVariants.{Value, Stuck}
 
--- ---- the code's cases
-pub fire-below : (x : ℕ) → x < 32 → Stuck 0 ≡ fire_w x
-unfolding fire_w
-fire-below x h = rw (leb-false 32 x h) refl
-
-pub fire-above : (x : ℕ) → 32 ≤ x → 47 < x → Stuck 0 ≡ fire_w x
-unfolding fire_w
-fire-above x l h = rw (leb-true 32 x l, leb-false x 47 h) refl
-
-pub fire-exception : (x : ℕ) → 32 ≤ x → x ≤ 47 → Raised (x - 32) ≡ fire_w x
-unfolding fire_w
-fire-exception x l h = rw (leb-true 32 x l, leb-true x 47 h) refl
-
+-- ---- the cases of a root
 module _ (k x : ℕ) where
   pub root-1 : Value k b.Zero ≡ root_w 1 k x
   unfolding root_w
@@ -47,31 +40,48 @@ module _ (k x : ℕ) where
   unfolding root_w
   root-other w a c d e = rw (eqb-false w 1 a, eqb-false w 3 c, eqb-false w 4 d, eqb-false w 6 e) refl
 
-pub fired-first : (k x : ℕ) → k ≡ 0 → fire_w x ≡ fired_w k x
-fired-first k x e = ap (λ (n : ℕ). fired_w n x) (sym e)
+-- ---- the first word that is no succ tells the ending
+abbrev pub no_succ : ℕ → Bool
+no_succ w = not (eqb w 2)
 
-pub fired-later : (k x : ℕ) → k ≢ 0 → Stuck k ≡ fired_w k x
-fired-later zero x n = absurd (n refl)
-fired-later (suc k) x n = refl
+-- what the words ws show under k succ signs, where that word is number i, counted from k
+abbrev Shown : List ℕ → ℕ → Option ℕ → Type 0
+Shown ws k None = read_w ws k ≡ Stuck (k + length ws)
+Shown ws k (Some i) = (k ≤ i) × (read_w ws k ≡ root_w (get_or ws (i - k) 0) i (get_or ws (suc (i - k)) 0))
 
-pub read-end : (ws : List ℕ) (k : ℕ) → length ws ≤ k → read_w (drop k ws) k ≡ Stuck k
+shown : (ws : List ℕ) (k : ℕ) → Shown ws k (position_from no_succ k ws)
 unfolding read_w
-read-end ws k h = ap (λ (l : List ℕ). read_w l k) (drop_of_length-le ws h)
+shown [] k = ap Stuck (sym (add-zero k))
+shown (w ∷ ws) k = by (eqb w 2) refl (shown ws (k + 1))
+  where
+    onward : (o : Option ℕ) → eqb w 2 ≡ true → Shown ws (k + 1) o → Shown (w ∷ ws) k o
+    onward None e h =
+        let n : k + 1 + length ws ≡ k + suc (length ws) = omega arith in
+        ap (λ (b : Bool). pick b (read_w ws (k + 1)) (root_w w k (get_or ws 0 0))) e ∙ h ∙ ap Stuck n
+    onward (Some i) e h =
+        let j : i - k ≡ suc (i - (k + 1)) = omega arith in (
+          omega arith,
+          ap (λ (b : Bool). pick b (read_w ws (k + 1)) (root_w w k (get_or ws 0 0))) e ∙ h.1
+              ∙ ap (λ (m : ℕ). root_w (get_or (w ∷ ws) m 0) i (get_or (w ∷ ws) (suc m) 0)) (sym j),
+        )
 
-module _ (ws : List ℕ) (k : ℕ) (h : k < length ws) where
-  read_next : read_w (drop k ws) k ≡ pick (eqb (get_or ws k 0) 2) (read_w (drop (k + 1) ws) (k + 1)) (root_w (get_or ws k 0) k (get_or (drop (k + 1) ws) 0 0))
-  unfolding read_w
-  read_next = ap (λ (l : List ℕ). read_w l k) (drop-next ws k h)
+    here : eqb w 2 ≡ false → Shown (w ∷ ws) k (Some k)
+    here e =
+        let z : 0 ≡ k - k = omega arith in (
+          omega arith,
+          ap (λ (b : Bool). pick b (read_w ws (k + 1)) (root_w w k (get_or ws 0 0))) e ∙ ap (λ (m : ℕ). root_w (get_or (w ∷ ws) m 0) k (get_or (w ∷ ws) (suc m) 0)) z,
+        )
 
-  pub read-succ : get_or ws k 0 ≡ 2 → read_w (drop k ws) k ≡ read_w (drop (k + 1) ws) (k + 1)
-  read-succ e = read_next ∙ ap (λ (b : Bool). pick b (read_w (drop (k + 1) ws) (k + 1)) (root_w (get_or ws k 0) k (get_or (drop (k + 1) ws) 0 0))) (eqb-true (get_or ws k 0) 2 e)
+    by : (b : Bool) → eqb w 2 ≡ b → Shown ws (k + 1) (position_from no_succ (k + 1) ws) → Shown (w ∷ ws) k (cond (not b) (Some k) (position_from no_succ (k + 1) ws))
+    by true e h = onward (position_from no_succ (k + 1) ws) e h
+    by false e h = here e
 
-  pub read-root : get_or ws k 0 ≢ 2 → read_w (drop k ws) k ≡ root_w (get_or ws k 0) k (get_or ws (k + 1) 0)
-  read-root n =
-      read_next ∙ ap (λ (b : Bool). pick b (read_w (drop (k + 1) ws) (k + 1)) (root_w (get_or ws k 0) k (get_or (drop (k + 1) ws) 0 0))) (eqb-false (get_or ws k 0) 2 n)
-      ∙ ap (root_w (get_or ws k 0) k) (get_d_at (k + 1) ws)
-    where
-      get_d_at : (n : ℕ) (l : List ℕ) → get_or (drop n l) 0 0 ≡ get_or l n 0
-      get_d_at zero l = refl
-      get_d_at (suc n) [] = refl
-      get_d_at (suc n) (w ∷ l) = get_d_at n l
+module _ (ws : List ℕ) where
+  shown_first : Shown ws 0 (position no_succ ws)
+  shown_first = subst (Shown ws 0) (sym (position_from-zero no_succ ws)) (shown ws 0)
+
+  pub read-none : position no_succ ws ≡ None → read_w ws 0 ≡ Stuck (length ws)
+  read-none e = subst (Shown ws 0) e shown_first ∙ ap Stuck (zero-add (length ws))
+
+  pub read-first : (k : ℕ) → position no_succ ws ≡ Some k → read_w ws 0 ≡ root_w (get_or ws k 0) k (get_or ws (k + 1) 0)
+  read-first k e = (subst (Shown ws 0) e shown_first).1 ∙ ap (λ (m : ℕ). root_w (get_or ws m 0) k (get_or ws (suc m) 0)) (sub-zero k) ∙ ap (λ (m : ℕ). root_w (get_or ws k 0) k (get_or ws m 0)) (sym (add-one k))

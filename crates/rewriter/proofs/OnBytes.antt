@@ -19,6 +19,7 @@ use Rattle.theory.proofs.Accepted.{program-on-bytes, question-on-bytes}
 use Rattle.theory.proofs.AcceptedProper.{accepted-rules-proper}
 use Rattle.rules.specs.Index.{index_of}
 use Rattle.rules.specs.Program.{Sound, Lent}
+use Rattle.rules.specs.declared.index.Span.{Span}
 use Rattle.rewriter.specs.Read.{answer_w, run_on}
 use Rattle.rewriter.specs.Meaning.{answer_of}
 use Rattle.rewriter.specs.declared.Answer.{Answer}
@@ -28,7 +29,7 @@ module _ (p q : List ℕ) (s : Book) (t : Term) (ep : read_program p ≡ good s)
   sound : Sound (program_of s)
   sound = let h = program-on-bytes p s ep in record { few = h.0; formed = h.1; narrow = h.2 }
 
-  module _ (ks st own si oi ws : List ℕ) (arities : (k : ℕ) → get_or ks k 0 ≡ ((program_of s).fun k).arity) (standing-is : st ≡ stored_rules (standing (fun_of []))) (own_is : own ≡ stored_rules (own_list (program_of s)))
+  module _ (ks st own : List ℕ) (si oi : List Span) (ws : List ℕ) (arities : (k : ℕ) → get_or ks k 0 ≡ ((program_of s).fun k).arity) (standing-is : st ≡ stored_rules (standing (fun_of []))) (own_is : own ≡ stored_rules (own_list (program_of s)))
       (standing-index-is : si ≡ index_of st) (own-index-is : oi ≡ index_of own) (question-is : ws ≡ words (tree t)) where
     lent : Lent (program_of s) ks st own
     lent = record { arities = arities; standing_list = standing-is ∙ sym (standing-same (funs_of 0 s.decls.arities s.rules_at)); own_is = own_is }

@@ -14,7 +14,9 @@ use Rattle.theory.specs.Proper.{ProperRules}
 use Rattle.theory.proofs.Shape.{tree-shaped}
 use Rattle.words.specs.Terms.{arity_of}
 use Rattle.rules.specs.Index.{index_of}
-use Rattle.rules.specs.Finding.{fitting_of, is_found, rule_of}
+use Rattle.std.specs.Prelude.{is_some}
+use Rattle.rules.specs.Finding.{fitting_of, rule_of}
+use Rattle.rules.specs.declared.index.Span.{Span}
 use Rattle.rules.specs.Program.{Sound, Lent}
 use Rattle.rules.proofs.Stored.{rooted-append}
 use Rattle.rules.proofs.Found.{Picked}
@@ -24,11 +26,11 @@ use Rattle.rewriter.specs.Read.{answer_w, run_on}
 use Rattle.rewriter.specs.Meaning.{answer_of}
 use Rattle.rewriter.proofs.Answers.{from_is}
 
-module _ (ks st own si oi : List ℕ) (P : Program) (sound : Sound P) (proper : ProperRules (rules P)) (lent : Lent P ks st own) (es : si ≡ index_of st) (eo : oi ≡ index_of own) where
+module _ (ks st own : List ℕ) (si oi : List Span) (P : Program) (sound : Sound P) (proper : ProperRules (rules P)) (lent : Lent P ks st own) (es : si ≡ index_of st) (eo : oi ≡ index_of own) where
   -- the search finds the first of the program's rules that fits
-  found : (t : Tree) → Shaped (arity_of ks) t → (rest : List ℕ) → let f = fitting_of ks st own si oi (words t ++ rest) in Picked ks t (rules P) (rule_of st own f) (is_found f)
+  found : (t : Tree) → Shaped (arity_of ks) t → (rest : List ℕ) → let f = fitting_of ks st own si oi (words t ++ rest) in Picked ks t (rules P) (rule_of st own f) (is_some f)
   found t h rest =
-      subst₂ (λ (i j : List ℕ). let f = fitting_of ks st own i j (words t ++ rest) in Picked ks t (rules P) (rule_of st own f) (is_found f)) (sym es) (sym eo)
+      subst₂ (λ (i j : List Span). let f = fitting_of ks st own i j (words t ++ rest) in Picked ks t (rules P) (rule_of st own f) (is_some f)) (sym es) (sym eo)
       (program-rule-found ks st own P sound lent t (subst (λ (f : ℕ → ℕ). Shaped f t) (arities-are ks st own P sound lent) h) rest)
 
   vars : (x : ℕ) → first_fit (rules P) (var x) ≡ none

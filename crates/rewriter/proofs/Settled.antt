@@ -3,11 +3,10 @@ use mathlib.Core.Path.{◌≡◌, refl, ap, ap₂, ◌∙◌}
 use mathlib.Core.Bool.{Bool, true, false}
 use mathlib.Core.Option.{Option, none, some}
 use mathlib.Core.List.{List, []}
-use Prim.Native.Nat.{ℕ, zero, suc, ◌+◌, ◌-◌, ◌≤◌}
-use native.Mathlib.Nat.{sub-zero}
+use Prim.Native.Nat.{ℕ, zero, suc, ◌+◌, ◌≤◌}
 use native.Mathlib.Omega.{arith}
 use lib.Dec.{leb}
-use lib.ListN.{length, take, drop}
+use lib.ListN.{length, take}
 use Rattle.theory.specs.Syntax.{pick}
 use Rattle.theory.proofs.Tests.{le-of-leb}
 use Rattle.theory.specs.Buffers.{over, padded}
@@ -48,7 +47,7 @@ module _ (next : List ℕ → Option (List ℕ)) (room : ℕ) where
 
 -- the answer that the code puts together
 pub settled : (l : Last) (room : ℕ) (r : Ran) (f f' : List ℕ) (s : Said) → r ≡ ran_of l → length l.term ≤ room → room ≤ length f → f' ≡ over (padded room l.term) f
-    → s ≡ said_w r.ending (take (r.len - 0) (drop 0 f')) → ◌≡◌ {A = Answer} (record { said = s; steps = r.steps }) (answer_w l)
+    → s ≡ said_w r.ending (take r.len f') → ◌≡◌ {A = Answer} (record { said = s; steps = r.steps }) (answer_w l)
 settled l room r f f' s er h k ef es =
-    let p : take (r.len - 0) (drop 0 f') ≡ l.term = ap (λ (n : ℕ). take n f') (sub-zero r.len) ∙ ap₂ (λ (x : Ran) (g : List ℕ). take x.len g) er ef ∙ over-begins l.term _ f (omega arith) in
+    let p : take r.len f' ≡ l.term = ap₂ (λ (x : Ran) (g : List ℕ). take x.len g) er ef ∙ over-begins l.term _ f (omega arith) in
     ap₂ (λ (s : Said) (n : ℕ). record { said = s; steps = n }) (es ∙ ap₂ (λ (x : Ran) (t : List ℕ). said_w x.ending t) er p) (ap (λ (x : Ran). x.steps) er)

@@ -1,8 +1,8 @@
 -- The answer that the code gives for each answer of the theory.
 use Rattle.theory.specs.Syntax.{zero_b, true_b, false_b, Val, base, up, height}
 use Rattle.theory.specs.Endings.{Ending, value, raised, stuck, too_deep, is, out_of_steps, too_big, Said as TheorySaid, Answer as TheoryAnswer}
-use Rattle.rewriter.specs.declared.ending.Base.{Base as Const}
-use Rattle.rewriter.specs.declared.ending.Base.TheVariants as b
+use Rattle.words.specs.declared.base.Base.{Base as Const}
+use Rattle.words.specs.declared.base.Base.TheVariants as b
 use Rattle.rewriter.specs.declared.ending.Said.{Said}
 use Rattle.rewriter.specs.declared.ending.Said.TheVariants.{Value, Raised, Stuck, Out, Big}
 use Rattle.rewriter.specs.declared.Answer.{Answer}

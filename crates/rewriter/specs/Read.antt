@@ -1,12 +1,14 @@
 -- The ending that a term's words show, and the answer of a run.
 use Rattle.std.specs.Prelude.{ℕ, zero, suc, ◌+◌, ◌-◌, List, [], ◌∷◌, ◌&&◌, eqb, leb, get_or}
 use Rattle.theory.specs.Syntax.{pick}
+use Rattle.rules.specs.declared.index.Span.{Span}
+use Rattle.rules.specs.declared.lists.Lists.{Lists}
 use Rattle.step.specs.Next.{next_w}
 use Rattle.turns.specs.Run.{Last, run_from}
 use Rattle.turns.specs.declared.run.Ending.{Ending}
 use Rattle.turns.specs.declared.run.Ending.TheVariants.{Done}
 use Rattle.turns.specs.declared.run.Ending.TheVariants as ending
-use Rattle.rewriter.specs.declared.ending.Base.TheVariants as b
+use Rattle.words.specs.declared.base.Base.TheVariants as b
 use Rattle.rewriter.specs.declared.ending.Said.{Said}
 use Rattle.rewriter.specs.declared.ending.Said.TheVariants.{Value, Raised, Stuck, Out, Big}
 use Rattle.rewriter.specs.declared.Answer.{Answer}
@@ -39,5 +41,9 @@ abbrev pub answer_w : Last → Answer
 answer_w l = record { said = said_w l.ending l.term; steps = l.steps }
 
 -- THE RUN from a question's words, within the room and the allowance
-unfoldable pub run_on : (ks standing own standingIndex ownIndex question : List ℕ) (room allowance : ℕ) → Last
+unfoldable pub run_on : (ks standing own : List ℕ) (standingIndex ownIndex : List Span) (question : List ℕ) (room allowance : ℕ) → Last
 run_on ks standing own standingIndex ownIndex question room allowance = run_from (next_w ks standing own standingIndex ownIndex) room allowance question
+
+-- the same by the lists that are lent
+abbrev pub run_by : Lists → (question : List ℕ) (room allowance : ℕ) → Last
+run_by l = run_on l.arities.now l.standing.now l.own.now l.standing_index.now l.own_index.now

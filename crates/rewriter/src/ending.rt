@@ -2,19 +2,11 @@
 ghost use Rattle.std.specs.Prelude.{◌≡◌};
 ghost use Rattle.rewriter.specs.Read.{fire_w, root_w, read_w, said_w};
 
-use rules::index::word_at;
 use turns::run::Ending;
-
-// The constants of values.
-#[derive(Clone, Copy)]
-pub enum Base {
-    Zero,
-    True,
-    False,
-}
+use words::base::Base;
 
 // How rewriting ends.
-#[derive(Clone, Copy)]
+#[derive(Clone, Copy, PartialEq, Eq)]
 pub enum Said {
     // So many succ over a constant.
     Value(usize, Base),
@@ -28,33 +20,38 @@ pub enum Said {
     Big,
 }
 
+// The words of the symbols that tell an ending.
+const ZERO: u16 = 1;
+
+const SUCC: u16 = 2;
+
+const TRUE: u16 = 3;
+
+const FALSE: u16 = 4;
+
+const FIRE: u16 = 6;
+
 // Fire over the word x: an exception's word is one of 32 to 47; over anything else it is stuck.
+#[tactic(auto, unfolding(crate::specs::Read::fire_w))]
 fn fire_of(x: u16) -> Said
     ensures { result ≡ fire_w x }
 {
-    if x < 32 {
-        return Said::Stuck(0);
+    match x {
+        32..=47 => Said::Raised(x - 32),
+        _ => Said::Stuck(0),
     }
-    if x > 47 {
-        return Said::Stuck(0);
-    }
-    Said::Raised(x - 32)
 }
 
 // The ending of a term under k succ whose root is w, and whose next word is x.
+#[tactic(auto, unfolding(crate::specs::Read::root_w))]
 fn at_root(w: u16, k: usize, x: u16) -> Said
     ensures { result ≡ root_w w k x }
 {
     match w {
-        1 => Said::Value(k, Base::Zero),
-        3 => Said::Value(k, Base::True),
-        4 => Said::Value(k, Base::False),
-        6 => {
-            if k == 0 {
-                return fire_of(x);
-            }
-            Said::Stuck(k)
-        }
+        ZERO => Said::Value(k, Base::Zero),
+        TRUE => Said::Value(k, Base::True),
+        FALSE => Said::Value(k, Base::False),
+        FIRE if k == 0 => fire_of(x),
         _ => Said::Stuck(k),
     }
 }
@@ -63,15 +60,10 @@ fn at_root(w: u16, k: usize, x: u16) -> Said
 fn read_off(term: &[u16]) -> Said
     ensures { result ≡ read_w term.now 0 }
 {
-    let mut k = 0;
-    while k < term.len() {
-        let w = term[k];
-        if w != 2 {
-            return at_root(w, k, word_at(term, k + 1));
-        }
-        k += 1;
+    match term.iter().position(|w| *w != SUCC) {
+        Some(k) => at_root(term[k], k, term.get(k + 1).copied().unwrap_or(0)),
+        None => Said::Stuck(term.len()),
     }
-    Said::Stuck(k)
 }
 
 // What a run says that ends so, with this term.

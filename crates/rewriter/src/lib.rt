@@ -5,27 +5,25 @@ pub mod ending;
 
 ghost use Rattle.std.specs.Prelude.{◌≡◌, ◌≤◌, length, replicate};
 ghost use Rattle.theory.specs.Buffers.{over, padded};
-ghost use Rattle.rewriter.specs.Read.{answer_w, run_on};
+ghost use Rattle.rewriter.specs.Read.{answer_w, run_by};
 
 use crate::ending::{Said, said_of};
-use turns::each::start_each;
-use turns::run::start;
+use rules::lists::Lists;
+use turns::each::EachStep;
+use turns::round::Round;
+use turns::run::{InPlace, start_by};
 
 // How rewriting ended, after how many steps.
-#[derive(Clone, Copy)]
+#[derive(Clone, Copy, PartialEq, Eq)]
 pub struct Answer {
     pub said: Said,
     pub steps: usize,
 }
 
-// The answer of rewriting the question within the allowance and the room. At the end the first buffer holds the last term that fitted,
-// then zeros up to the room, and the second zeros up to the room; words past the room are untouched.
-pub fn rewrite<'a>(
-    arities: &[u8],
-    standing: &'a [u16],
-    own: &'a [u16],
-    standing_index: &[usize],
-    own_index: &[usize],
+// The answer of rewriting the question, by a run whose rounds are made in any of the ways.
+#[tactic(auto, unfolding(crate::specs::Read::run_on))]
+fn rewrite_by<R: Round>(
+    lists: Lists,
     question: &[u16],
     first: &mut [u16],
     second: &mut [u16],
@@ -34,36 +32,40 @@ pub fn rewrite<'a>(
 ) -> Answer
     requires room_in_bounds { (room ≤ length first.old) × ((room ≤ length second.old) × (room ≤ 4096)) }
     requires allowance_bound { allowance ≤ 1000000 }
-    ensures value { result ≡ answer_w (run_on arities.now standing.now own.now standing_index.now own_index.now question.now room allowance) }
-    ensures first_after { first.new ≡ over (padded room (run_on arities.now standing.now own.now standing_index.now own_index.now question.now room allowance).term) first.old }
+    ensures value { result ≡ answer_w (run_by lists.entry question.now room allowance) }
+    ensures first_after { first.new ≡ over (padded room (run_by lists.entry question.now room allowance).term) first.old }
     ensures second_after { second.new ≡ over (replicate room 0) second.old }
 {
-    let ran = start(
-        arities,
-        standing,
-        own,
-        standing_index,
-        own_index,
-        question,
-        first,
-        second,
-        allowance,
-        room,
-    );
-    let ending = ran.ending;
-    let steps = ran.steps;
-    let len = ran.len;
-    let said = said_of(ending, &first[0..len]);
-    Answer { said, steps }
+    let ran = start_by::<R>(lists, question, first, second, allowance, room);
+    let said = said_of(ran.ending, &first[..ran.len]);
+    Answer {
+        said,
+        steps: ran.steps,
+    }
+}
+
+// The answer of rewriting the question within the allowance and the room. At the end the first buffer holds the last term that fitted,
+// then zeros up to the room, and the second zeros up to the room; words past the room are untouched.
+pub fn rewrite(
+    lists: Lists,
+    question: &[u16],
+    first: &mut [u16],
+    second: &mut [u16],
+    allowance: usize,
+    room: usize,
+) -> Answer
+    requires room_in_bounds { (room ≤ length first.old) × ((room ≤ length second.old) × (room ≤ 4096)) }
+    requires allowance_bound { allowance ≤ 1000000 }
+    ensures value { result ≡ answer_w (run_by lists.entry question.now room allowance) }
+    ensures first_after { first.new ≡ over (padded room (run_by lists.entry question.now room allowance).term) first.old }
+    ensures second_after { second.new ≡ over (replicate room 0) second.old }
+{
+    rewrite_by::<InPlace>(lists, question, first, second, allowance, room)
 }
 
 // The same answer and the same words in both buffers, from the run that makes every step into the other buffer and none in place.
-pub fn rewrite_each<'a>(
-    arities: &[u8],
-    standing: &'a [u16],
-    own: &'a [u16],
-    standing_index: &[usize],
-    own_index: &[usize],
+pub fn rewrite_each(
+    lists: Lists,
     question: &[u16],
     first: &mut [u16],
     second: &mut [u16],
@@ -72,25 +74,9 @@ pub fn rewrite_each<'a>(
 ) -> Answer
     requires room_in_bounds { (room ≤ length first.old) × ((room ≤ length second.old) × (room ≤ 4096)) }
     requires allowance_bound { allowance ≤ 1000000 }
-    ensures value { result ≡ answer_w (run_on arities.now standing.now own.now standing_index.now own_index.now question.now room allowance) }
-    ensures first_after { first.new ≡ over (padded room (run_on arities.now standing.now own.now standing_index.now own_index.now question.now room allowance).term) first.old }
+    ensures value { result ≡ answer_w (run_by lists.entry question.now room allowance) }
+    ensures first_after { first.new ≡ over (padded room (run_by lists.entry question.now room allowance).term) first.old }
     ensures second_after { second.new ≡ over (replicate room 0) second.old }
 {
-    let ran = start_each(
-        arities,
-        standing,
-        own,
-        standing_index,
-        own_index,
-        question,
-        first,
-        second,
-        allowance,
-        room,
-    );
-    let ending = ran.ending;
-    let steps = ran.steps;
-    let len = ran.len;
-    let said = said_of(ending, &first[0..len]);
-    Answer { said, steps }
+    rewrite_by::<EachStep>(lists, question, first, second, allowance, room)
 }

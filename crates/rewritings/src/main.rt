@@ -6,218 +6,127 @@
 ghost use Rattle.std.specs.Prelude.{◌≤◌};
 
 use checker::builtins::start_arities;
-use rewriter::ending::{Base, Said};
+use rewriter::ending::Said;
 use rewriter::{Answer, rewrite, rewrite_each};
 use rules::index::index_of;
+use rules::lists::Lists;
 use rules::table::standing_list;
 use std::io;
 
-fn print_base(rt: &impl Print, b: Base) -> io::Result<()> {
-    match b {
-        Base::Zero => rt.write_all(b" zero "),
-        Base::True => rt.write_all(b" true "),
-        Base::False => rt.write_all(b" false "),
+fn print_answer(rt: &impl Print, answer: Answer) -> io::Result<()> {
+    let steps = answer.steps;
+    match answer.said {
+        Said::Value(k, base) => print!(rt; "value {k} {base}")?,
+        Said::Raised(e) => print!(rt; "exception {e} -")?,
+        Said::Stuck(s) => print!(rt; "stuck {s} -")?,
+        Said::Out => print!(rt; "out - -")?,
+        Said::Big => print!(rt; "big - -")?,
     }
-}
-
-fn print_said(rt: &impl Print, said: Said) -> io::Result<()> {
-    match said {
-        Said::Value(k, b) => {
-            print!(rt; "value {k}")?;
-            print_base(rt, b)
-        }
-        Said::Raised(e) => print!(rt; "exception {e} - "),
-        Said::Stuck(s) => print!(rt; "stuck {s} - "),
-        Said::Out => rt.write_all(b"out - - "),
-        Said::Big => rt.write_all(b"big - - "),
-    }
-}
-
-fn print_answer(rt: &impl Print, a: Answer) -> io::Result<()> {
-    let said = a.said;
-    let steps = a.steps;
-    print_said(rt, said)?;
-    rt.println(steps)
-}
-
-fn print_word(rt: &impl Print, i: usize, w: u16) -> io::Result<()> {
-    if 0 < i {
-        rt.write_all(b" ")?;
-    }
-    rt.print(w)
+    println!(rt; " {steps}")
 }
 
 // The words up to the first 0, which is no symbol.
 fn print_words(rt: &impl Print, words: &[u16]) -> io::Result<()> {
-    let mut i = 0;
-    while i < words.len() {
-        let w = words[i];
-        if w == 0 {
-            return Ok(());
+    for (i, word) in words.iter().take_while(|w| **w != 0).enumerate() {
+        if i > 0 {
+            print!(rt; " ")?;
         }
-        print_word(rt, i, w)?;
-        i += 1;
+        print!(rt; "{word}")?;
     }
-    Ok(())
-}
-
-fn base_number(b: Base) -> usize {
-    match b {
-        Base::Zero => 0,
-        Base::True => 1,
-        Base::False => 2,
-    }
-}
-
-// An ending as two numbers: which one it is, and what it says.
-fn kind_of(said: Said) -> usize {
-    match said {
-        Said::Value(k, b) => base_number(b),
-        Said::Raised(e) => 3,
-        Said::Stuck(s) => 4,
-        Said::Out => 5,
-        Said::Big => 6,
-    }
-}
-
-fn said_number(said: Said) -> usize {
-    match said {
-        Said::Value(k, b) => k as usize,
-        Said::Raised(e) => e as usize,
-        Said::Stuck(s) => s as usize,
-        Said::Out => 0,
-        Said::Big => 0,
-    }
-}
-
-fn same_answer(one: Answer, other: Answer) -> bool {
-    let said = one.said;
-    let other_said = other.said;
-    if kind_of(said) != kind_of(other_said) {
-        return false;
-    }
-    if said_number(said) != said_number(other_said) {
-        return false;
-    }
-    one.steps == other.steps
-}
-
-fn same_words(one: &[u16], other: &[u16]) -> bool {
-    if one.len() != other.len() {
-        return false;
-    }
-    let mut i = 0;
-    while i < one.len() {
-        if one[i] != other[i] {
-            return false;
-        }
-        i += 1;
-    }
-    true
+    println!(rt)
 }
 
 fn say_differs(rt: &impl Print, same: bool) -> io::Result<()> {
     if !same {
-        rt.write_all(b"differs\n")?;
+        println!(rt; "differs")?;
     }
     Ok(())
 }
 
-// Rewrites within so many steps in each of the two ways, prints the term that the one leaves, and answers how the other ends.
-fn after<'a>(
-    rt: &impl Print,
-    standing: &'a [u16],
-    own: &'a [u16],
-    standing_index: &[usize],
-    own_index: &[usize],
-    arities: &[u8],
-    question: &[u16],
-    steps: usize,
+// What is rewritten, by which lists, in how much room.
+#[derive(Drop)]
+struct Subject<'a> {
+    lists: Lists<'a>,
+    question: &'a [u16],
     room: usize,
-) -> io::Result<Answer>
-    requires { (steps ≤ 1000000) × (room ≤ 512) }
-{
-    let mut first = [7u16; 513];
-    let mut second = [7u16; 513];
-    let a = rewrite(
-        arities,
-        standing,
-        own,
-        standing_index,
-        own_index,
-        question,
-        &mut first,
-        &mut second,
-        steps,
-        room,
-    );
-    let mut first_each = [7u16; 513];
-    let mut second_each = [7u16; 513];
-    let b = rewrite_each(
-        arities,
-        standing,
-        own,
-        standing_index,
-        own_index,
-        question,
-        &mut first_each,
-        &mut second_each,
-        steps,
-        room,
-    );
-    print_words(rt, &first)?;
-    rt.write_all(b"\n")?;
-    say_differs(rt, same_answer(a, b))?;
-    say_differs(rt, same_words(&first, &first_each))?;
-    say_differs(rt, same_words(&second, &second_each))?;
-    Ok(b)
+    ghost room_fits: { room ≤ 512 },
 }
 
-// The same for every number of steps up to the most, and then how the run ends.
+impl Subject<'_> {
+    // Rewrites within so many steps in each of the two ways, prints the term that the one leaves, and answers how the other ends.
+    fn after(&self, rt: &impl Print, steps: usize) -> io::Result<Answer>
+        requires { steps ≤ 1000000 }
+    {
+        let mut first = [7u16; 513];
+        let mut second = [7u16; 513];
+        let a = rewrite(
+            self.lists,
+            self.question,
+            &mut first,
+            &mut second,
+            steps,
+            self.room,
+        );
+        let mut first_each = [7u16; 513];
+        let mut second_each = [7u16; 513];
+        let b = rewrite_each(
+            self.lists,
+            self.question,
+            &mut first_each,
+            &mut second_each,
+            steps,
+            self.room,
+        );
+        print_words(rt, &first)?;
+        say_differs(rt, a == b)?;
+        say_differs(rt, first == first_each)?;
+        say_differs(rt, second == second_each)?;
+        Ok(b)
+    }
+
+    // The same for every number of steps up to the most, and then how the run ends.
+    fn trace(&self, rt: &impl Print, most: usize) -> io::Result<()>
+        requires { most ≤ 1000000 }
+    {
+        for steps in 0..most {
+            self.after(rt, steps)?;
+        }
+        let a = self.after(rt, most)?;
+        print_answer(rt, a)
+    }
+}
+
+// A question to a program with these arities and this own list, in so much room, for every number of steps up to the most.
 fn trace<'a>(
     rt: &impl Print,
-    standing: &'a [u16],
-    standing_index: &[usize],
-    arities: &[u8],
+    arities: &'a [u8],
     own: &'a [u16],
-    question: &[u16],
-    most: usize,
+    question: &'a [u16],
     room: usize,
+    most: usize,
 ) -> io::Result<()>
-    requires { (most ≤ 1000000) × (room ≤ 512) }
+    requires { (room ≤ 512) × (most ≤ 1000000) }
 {
+    let standing = standing_list();
+    let standing_index = index_of(&standing);
     let own_index = index_of(own);
-    let mut n = 0;
-    while n < most {
-        after(
-            rt,
-            standing,
-            own,
-            standing_index,
-            &own_index,
-            arities,
-            question,
-            n,
-            room,
-        )?;
-        n += 1;
-    }
-    let a = after(
-        rt,
-        standing,
-        own,
-        standing_index,
-        &own_index,
+    let lists = Lists {
         arities,
+        standing: &standing,
+        own,
+        standing_index: &standing_index,
+        own_index: &own_index,
+    };
+    let subject = Subject {
+        lists,
         question,
-        most,
         room,
-    )?;
-    print_answer(rt, a)
+    };
+    subject.trace(rt, most)
 }
 
 // Figure 2's program and figure 4's terms, with fire(A) where figure 4's ninth arrow leaves raise(A).
-fn figure_two(rt: &impl Print, standing: &[u16], standing_index: &[usize]) -> io::Result<()> {
+fn figure_two(rt: &impl Print) -> io::Result<()> {
     let mut arities = start_arities();
     arities[16] = 1;
     let own = [
@@ -228,20 +137,11 @@ fn figure_two(rt: &impl Print, standing: &[u16], standing_index: &[usize]) -> io
         32, 2, 1,
     ];
     let question = [384u16, 1];
-    trace(
-        rt,
-        standing,
-        standing_index,
-        &arities,
-        &own,
-        &question,
-        13,
-        512,
-    )
+    trace(rt, &arities, &own, &question, 512, 13)
 }
 
 // A handler for another exception: select of unequal exceptions.
-fn unequal(rt: &impl Print, standing: &[u16], standing_index: &[usize]) -> io::Result<()> {
+fn unequal(rt: &impl Print) -> io::Result<()> {
     let mut arities = start_arities();
     arities[16] = 2;
     let own = [
@@ -258,20 +158,11 @@ fn unequal(rt: &impl Print, standing: &[u16], standing_index: &[usize]) -> io::R
     let question = [
         384u16, 2, 12, 2, 2, 11, 33, 32, 2, 264, 2, 2, 2, 2, 2, 2, 2, 2, 1, 4, 2, 11, 33,
     ];
-    trace(
-        rt,
-        standing,
-        standing_index,
-        &arities,
-        &own,
-        &question,
-        11,
-        512,
-    )
+    trace(rt, &arities, &own, &question, 512, 11)
 }
 
 // Calls of `if` and of built-ins.
-fn choices(rt: &impl Print, standing: &[u16], standing_index: &[usize]) -> io::Result<()> {
+fn choices(rt: &impl Print) -> io::Result<()> {
     let mut arities = start_arities();
     arities[17] = 1;
     arities[18] = 1;
@@ -283,20 +174,11 @@ fn choices(rt: &impl Print, standing: &[u16], standing_index: &[usize]) -> io::R
         2, 4, 394, 1, 2, 2, 2, 1, 2, 2, 400, 64, 401, 64, 2, 5, 401, 64, 7, 9, 64, 402, 64,
     ];
     let question = [392u16, 392, 296, 400, 256, 10, 4, 1, 1, 11, 32, 384];
-    trace(
-        rt,
-        standing,
-        standing_index,
-        &arities,
-        &own,
-        &question,
-        25,
-        512,
-    )
+    trace(rt, &arities, &own, &question, 512, 25)
 }
 
 // Figure 6's program, which grows: within 12 words the eleventh step is too big.
-fn too_big(rt: &impl Print, standing: &[u16], standing_index: &[usize]) -> io::Result<()> {
+fn too_big(rt: &impl Print) -> io::Result<()> {
     let mut arities = start_arities();
     arities[16] = 1;
     let own = [
@@ -307,23 +189,12 @@ fn too_big(rt: &impl Print, standing: &[u16], standing_index: &[usize]) -> io::R
         64, 32, 2, 1,
     ];
     let question = [384u16, 1];
-    trace(
-        rt,
-        standing,
-        standing_index,
-        &arities,
-        &own,
-        &question,
-        12,
-        12,
-    )
+    trace(rt, &arities, &own, &question, 12, 12)
 }
 
 fn main(rt: HostRuntime) -> io::Result<()> {
-    let standing = standing_list();
-    let standing_index = index_of(&standing);
-    figure_two(&rt, &standing, &standing_index)?;
-    unequal(&rt, &standing, &standing_index)?;
-    choices(&rt, &standing, &standing_index)?;
-    too_big(&rt, &standing, &standing_index)
+    figure_two(&rt)?;
+    unequal(&rt)?;
+    choices(&rt)?;
+    too_big(&rt)
 }

@@ -8,13 +8,13 @@ use native.Mathlib.Omega.{arith}
 use lib.Dec.{T, leb, leb→le}
 use lib.ListN.{length, get_or, take, drop}
 use lib.Seq.{length-take-le, take-take, drop-drop}
+use Rattle.std.specs.Prelude.{Option, Some, None, is_some}
 use Rattle.theory.proofs.Lists.{past-it}
 use Rattle.rules.specs.Matching.{fits}
 use Rattle.rules.specs.Index.{span_of, part_in}
-use Rattle.rules.specs.Finding.{choose, first_from, first_fit, moved, first_in, first_at, standing_first, fitting_of, is_found, rule_of}
+use Rattle.rules.specs.Finding.{stored, choose, first_from, first_fit, moved, first_in, first_at, standing_first, fitting_of, rule_of}
 use Rattle.rules.specs.declared.index.Span.{Span}
 use Rattle.rules.specs.declared.finding.Place.{Place}
-use Rattle.rules.specs.declared.finding.Place.TheVariants.{Nowhere, Stored}
 use Rattle.rules.specs.declared.finding.Fitting.{Fitting}
 use Rattle.rules.proofs.Pass.{span-inside}
 use Rattle.rules.proofs.Placed.{part-within}
@@ -48,11 +48,11 @@ module _ (ks ss : List ℕ) where
       })
 
   -- the rule at a place of a list is fitted
-  abbrev FittedIn : List ℕ → Place → Type 0
-  FittedIn list Nowhere = Unit {0}
-  FittedIn list (Stored at n) = Fitted ks (take n (drop at list)) ss
+  abbrev FittedIn : List ℕ → Option Place → Type 0
+  FittedIn list None = Unit {0}
+  FittedIn list (Some p) = Fitted ks (take p.len (drop p.at list)) ss
 
-  choose-fitted : (list : List ℕ) (b f : Bool) (here on : Place) → (T b → f ≡ true → FittedIn list here) → FittedIn list on → FittedIn list (choose b f here on)
+  choose-fitted : (list : List ℕ) (b f : Bool) (here on : Option Place) → (T b → f ≡ true → FittedIn list here) → FittedIn list on → FittedIn list (choose b f here on)
   choose-fitted list false f here on p q = tt
   choose-fitted list true true here on p q = p tt refl
   choose-fitted list true false here on p q = q
@@ -64,7 +64,7 @@ module _ (ks ss : List ℕ) where
   walk-fitted list (suc n) at (w ∷ ws) e = walk-fitted list n (suc at) ws (one_on list at w ws e)
   walk-fitted list zero at (l ∷ []) e = tt
   walk-fitted list zero at (l ∷ r ∷ ws) e =
-      choose-fitted list (leb (l + r) (length ws)) (fits ks ss (take l ws) 0) (Stored at (2 + (l + r))) (first_from ks ss (l + r) (2 + at) ws)
+      choose-fitted list (leb (l + r) (length ws)) (fits ks ss (take l ws) 0) (stored at (2 + (l + r))) (first_from ks ss (l + r) (2 + at) ws)
       (λ t f. subst (λ (x : List ℕ). Fitted ks (take (2 + (l + r)) x) ss) (sym e) (rule-fitted l r ws (leb→le (l + r) (length ws) t) f))
       (walk-fitted list (l + r) (2 + at) ws on)
     where
@@ -74,14 +74,14 @@ module _ (ks ss : List ℕ) where
           ap (λ (k : ℕ). drop k list) (sym z) ∙ one_on list (suc at) r ws (one_on list at l (r ∷ ws) e)
 
   -- in a part of a list
-  moved-fitted : (list : List ℕ) (s : Span) → s.from ≤ s.to → s.to ≤ length list → (p : Place) → first_fit ks (part_in list s) ss ≡ p → FittedIn (part_in list s) p → FittedIn list (moved s.from p)
-  moved-fitted list s h k Nowhere e f = tt
-  moved-fitted list s h k (Stored at n) e f =
+  moved-fitted : (list : List ℕ) (s : Span) → s.from ≤ s.to → s.to ≤ length list → (p : Option Place) → first_fit ks (part_in list s) ss ≡ p → FittedIn (part_in list s) p → FittedIn list (moved s.from p)
+  moved-fitted list s h k None e f = tt
+  moved-fitted list s h k (Some p) e f =
       let w = part-within ks list ss s h k e in
       subst (λ (x : List ℕ). Fitted ks x ss)
-      (part-of-front n at (s.to - s.from) (drop s.from list) (omega (arith, w, h)) ∙ ap (take n) (drop-drop at s.from list)) f
+      (part-of-front p.len p.at (s.to - s.from) (drop s.from list) (omega (arith, w, h)) ∙ ap (take p.len) (drop-drop p.at s.from list)) f
 
-  at-fitted : (list index : List ℕ) → FittedIn list (first_at ks list index ss)
+  at-fitted : (list : List ℕ) (index : List Span) → FittedIn list (first_at ks list index ss)
   unfolding first_at first_in
   at-fitted list index =
       let s = span_of index (length list) (get_or ss 0 0) in
@@ -89,14 +89,14 @@ module _ (ks ss : List ℕ) where
       moved-fitted list s i.0 i.1 (first_fit ks (part_in list s) ss) refl (walk-fitted (part_in list s) 0 0 (part_in list s) refl)
 
   -- in either of two lists
-  two-fitted : (standing own : List ℕ) (p q : Place) → FittedIn standing p → FittedIn own q → is_found (standing_first p q) ≡ true → Fitted ks (rule_of standing own (standing_first p q)) ss
-  two-fitted standing own (Stored at n) q h k e = h
-  two-fitted standing own Nowhere (Stored at n) h k e = k
-  two-fitted standing own Nowhere Nowhere h k e = absurd (false≢true e)
+  two-fitted : (standing own : List ℕ) (p q : Option Place) → FittedIn standing p → FittedIn own q → is_some (standing_first p q) ≡ true → Fitted ks (rule_of standing own (standing_first p q)) ss
+  two-fitted standing own (Some p) q h k e = h
+  two-fitted standing own None (Some p) h k e = k
+  two-fitted standing own None None h k e = absurd (false≢true e)
 
 -- THE RULE that is found is whole, and fits
-pub found-fits : (ks standing own si oi ss : List ℕ) (f : Fitting) → fitting_of ks standing own si oi ss ≡ f → is_found f ≡ true → Fitted ks (rule_of standing own f) ss
+pub found-fits : (ks standing own : List ℕ) (si oi : List Span) (ss : List ℕ) (f : Option Fitting) → fitting_of ks standing own si oi ss ≡ f → is_some f ≡ true → Fitted ks (rule_of standing own f) ss
 unfolding fitting_of
 found-fits ks standing own si oi ss f e h =
-    subst (λ (g : Fitting). is_found g ≡ true → Fitted ks (rule_of standing own g) ss) e
+    subst (λ (g : Option Fitting). is_some g ≡ true → Fitted ks (rule_of standing own g) ss) e
     (two-fitted ks ss standing own (first_at ks standing si ss) (first_at ks own oi ss) (at-fitted ks ss standing si) (at-fitted ks ss own oi)) h

@@ -9,17 +9,17 @@ use native.Mathlib.Omega.{arith}
 use lib.Dec.{leb, ltb}
 use lib.ListN.{length, take, length-append}
 use borrow.Author.Tests.{ltb-true}
+use Rattle.std.specs.Prelude.{Option, None}
 use Rattle.theory.specs.Syntax.{pick}
 use Rattle.theory.specs.Tree.{Tree, var, node, Rule}
 use Rattle.theory.specs.Words.{words, all_words, is_var, stored_rule, stored_rules}
 use Rattle.theory.proofs.Shape.{head_sym}
 use Rattle.theory.proofs.Readability.{list-append}
-use Rattle.words.specs.declared.terms.Reach.{Reach}
 use Rattle.rules.specs.Matching.{reached, fits}
 use Rattle.rules.specs.Index.{slot_of, index_of, span_of, part_in}
-use Rattle.rules.specs.Finding.{choose, first_from, first_fit, moved, first_in, first_at}
+use Rattle.rules.specs.Finding.{stored, choose, first_from, first_fit, moved, first_in, first_at}
+use Rattle.rules.specs.declared.index.Span.{Span}
 use Rattle.rules.specs.declared.finding.Place.{Place}
-use Rattle.rules.specs.declared.finding.Place.TheVariants.{Nowhere, Stored}
 use Rattle.rules.proofs.Takes.{takes-other}
 use Rattle.rules.proofs.Stored.{root_of, Rooted, rooted-left, rooted-right, rule_fits, rule-passed}
 use Rattle.rules.proofs.Scan.{Other, start_in, end_in, ranged, part-between}
@@ -35,7 +35,7 @@ slot-le w = go (ltb w 16) refl (ltb w 256) (ltb w 640) refl
     go false e false false f = omega arith
 
 -- ---- a search that starts further on finds the same, further on
-choose-moved : (n : ℕ) (b f : Bool) (here on : Place) → moved n (choose b f here on) ≡ choose b f (moved n here) (moved n on)
+choose-moved : (n : ℕ) (b f : Bool) (here on : Option Place) → moved n (choose b f here on) ≡ choose b f (moved n here) (moved n on)
 choose-moved n false f here on = refl
 choose-moved n true true here on = refl
 choose-moved n true false here on = refl
@@ -49,8 +49,8 @@ shifted ks ss a (suc n) at (w ∷ ws) =
 shifted ks ss a zero at (l ∷ []) = refl
 shifted ks ss a zero at (l ∷ r ∷ ws) =
     let m : a + (2 + at) ≡ 2 + (a + at) = omega arith in
-    choose-moved a (leb (l + r) (length ws)) (fits ks ss (take l ws) 0) (Stored at (2 + (l + r))) (first_from ks ss (l + r) (2 + at) ws)
-    ∙ ap (choose (leb (l + r) (length ws)) (fits ks ss (take l ws) 0) (Stored (a + at) (2 + (l + r)))) (shifted ks ss a (l + r) (2 + at) ws ∙ ap (λ (i : ℕ). first_from ks ss (l + r) i ws) m)
+    choose-moved a (leb (l + r) (length ws)) (fits ks ss (take l ws) 0) (stored at (2 + (l + r))) (first_from ks ss (l + r) (2 + at) ws)
+    ∙ ap (choose (leb (l + r) (length ws)) (fits ks ss (take l ws) 0) (stored (a + at) (2 + (l + r)))) (shifted ks ss a (l + r) (2 + at) ws ∙ ap (λ (i : ℕ). first_from ks ss (l + r) i ws) m)
 
 -- ---- a subject with the root w
 module _ (ks : List ℕ) (w : ℕ) (more : List ℕ) where
@@ -63,8 +63,8 @@ module _ (ks : List ℕ) (w : ℕ) (more : List ℕ) where
   other-fails r v n = go r.lhs v (λ e. n (ap slot_of e))
     where
       go : (l : Tree) → is_var (head_sym l) ≡ false → head_sym l ≢ w → fits ks ss (words l) 0 ≡ false
-      go (var x) v n = ap (λ (q : Reach). reached q (fits ks ss []) false) (takes-other ks ss (64 + x) 0 v (omega arith) n)
-      go (node s ts) v n = ap (λ (q : Reach). reached q (fits ks ss (all_words ts)) false) (takes-other ks ss s 0 v (omega arith) n)
+      go (var x) v n = ap (λ (q : Option ℕ). reached q (fits ks ss []) false) (takes-other ks ss (64 + x) 0 v (omega arith) n)
+      go (node s ts) v n = ap (λ (q : Option ℕ). reached q (fits ks ss (all_words ts)) false) (takes-other ks ss s 0 v (omega arith) n)
 
   others-passed : (xs : List Rule) → Rooted xs → Other (slot_of w) xs → (ys : List ℕ) (at : ℕ)
       → first_from ks ss 0 at (stored_rules xs ++ ys) ≡ first_from ks ss 0 (at + length (stored_rules xs)) ys
@@ -75,13 +75,13 @@ module _ (ks : List ℕ) (w : ℕ) (more : List ℕ) where
       ap (first_from ks ss 0 at) (append_assoc (stored_rule r) (stored_rules xs) ys) ∙ rule-passed r (stored_rules xs ++ ys) ks ss at (other-fails r h.0 o.0)
       ∙ others-passed xs h.1 o.1 ys (at + length (stored_rule r)) ∙ ap (λ (i : ℕ). first_from ks ss 0 i ys) m
 
-  none-of-others : (xs : List Rule) → Rooted xs → Other (slot_of w) xs → (at : ℕ) → first_from ks ss 0 at (stored_rules xs) ≡ Nowhere
+  none-of-others : (xs : List Rule) → Rooted xs → Other (slot_of w) xs → (at : ℕ) → first_from ks ss 0 at (stored_rules xs) ≡ None
   unfolding first_from
   none-of-others [] h o at = refl
   none-of-others (r ∷ xs) h o at = rule-passed r (stored_rules xs) ks ss at (other-fails r h.0 o.0) ∙ none-of-others xs h.1 o.1 (at + length (stored_rule r))
 
   -- rules behind which nothing fits
-  front-only : (xs : List Rule) (ys : List ℕ) → ((at : ℕ) → first_from ks ss 0 at ys ≡ Nowhere) → (at : ℕ) → first_from ks ss 0 at (stored_rules xs ++ ys) ≡ first_from ks ss 0 at (stored_rules xs)
+  front-only : (xs : List Rule) (ys : List ℕ) → ((at : ℕ) → first_from ks ss 0 at ys ≡ None) → (at : ℕ) → first_from ks ss 0 at (stored_rules xs ++ ys) ≡ first_from ks ss 0 at (stored_rules xs)
   unfolding first_from
   front-only [] ys h at = h at
   front-only (r ∷ xs) ys h at = ap (first_from ks ss 0 at) (append_assoc (stored_rule r) (stored_rules xs) ys) ∙ go (fits ks ss (words r.lhs) 0) refl (front-only xs ys h (at + length (stored_rule r)))
@@ -92,7 +92,7 @@ module _ (ks : List ℕ) (w : ℕ) (more : List ℕ) where
       go true e f = rule_fits r (stored_rules xs ++ ys) ks ss at e ∙ sym (rule_fits r (stored_rules xs) ks ss at e)
       go false e f = rule-passed r (stored_rules xs ++ ys) ks ss at e ∙ f ∙ sym (rule-passed r (stored_rules xs) ks ss at e)
 
-  among : (index : List ℕ) (before between after : List Rule) → Rooted (before ++ (between ++ after)) → Other (slot_of w) before → Other (slot_of w) after
+  among : (index : List Span) (before between after : List Rule) → Rooted (before ++ (between ++ after)) → Other (slot_of w) before → Other (slot_of w) after
       → start_in (slot_of w) index ≡ length (stored_rules before) → end_in (slot_of w) index ≡ length (stored_rules before) + length (stored_rules between)
       → first_at ks (stored_rules (before ++ (between ++ after))) index ss ≡ first_fit ks (stored_rules (before ++ (between ++ after))) ss
   unfolding first_at first_in

@@ -4,13 +4,12 @@ use mathlib.Core.Path.{◌≡◌, refl, sym, ap, ◌∙◌}
 use mathlib.Core.Logic.{◌≢◌, ◌⊎◌, inl, inr}
 use mathlib.Core.Bool.{Bool, true, false}
 use mathlib.Core.List.{List, [], ◌∷◌, ◌++◌, append_assoc}
-use Prim.Native.Nat.{ℕ, zero, suc, ◌+◌, ◌-◌, ◌*◌, ◌<◌, ◌≤◌}
+use Prim.Native.Nat.{ℕ, zero, suc, ◌+◌, ◌-◌, ◌<◌, ◌≤◌}
 use native.Mathlib.Nat.{lt_of_not-le, not-suc-le-zero, le_of_suc-le-suc}
 use native.Mathlib.Omega.{arith}
 use lib.Dec.{eqb, ltb}
-use lib.ListN.{length, replicate}
+use lib.ListN.{length}
 use borrow.Author.Tests.{lt-ltb, le-ltb, ltb-true, ltb-false, eqb-true, eqb-false}
-use Rattle.theory.proofs.Lists.{copies-same}
 use Rattle.theory.proofs.Tests.{pick-any}
 use Rattle.theory.specs.Syntax.{Def, Fun, pick}
 use Rattle.theory.specs.Builtins.{function, builtin_funs, nth_fun, fun_of, numbers_of, program}
@@ -18,14 +17,12 @@ use Rattle.theory.specs.Tree.{Rule}
 use Rattle.theory.specs.Words.{stored_rules}
 use Rattle.theory.specs.Translation.{aux, numbers, gather, raise_rule, handle_rule, same_rule, other_rule, exn_rules, arg_rule, entry_rule, own_rules, fun_rules, common_rules, standing, own_list}
 use Rattle.rules.specs.Index.{slot_of, index_of, span_of, part_in}
+use Rattle.rules.specs.declared.index.Span.{Span}
 use Rattle.rules.proofs.Stored.{root_of}
-use Rattle.rules.proofs.Scan.{scan, index-scan, scan-append, scan-other, scan-length, scan-first, Other, Mine, start_in, end_in, part-between}
+use Rattle.rules.proofs.Scan.{scan, index-scan, scan-append, scan-other, scan-length, scan-first, Other, Mine, start_in, end_in, blank, blank-slot, part-between}
 use Rattle.rules.proofs.Indexed.{slot-le}
 
 -- ---- rules of one slot that stand together
-abbrev blank : List ℕ
-blank = replicate 802 0
-
 module _ (w : ℕ) where
   abbrev s : ℕ
   s = slot_of w
@@ -41,19 +38,19 @@ module _ (w : ℕ) where
       let x = scan-other s before hb 0 blank in
       let y = scan-other s after ha (0 + length (stored_rules before)) (scan 0 before blank) in
       (part-between (index_of (stored_rules rs)) w [] [] rs
-      (ap (start_in s) (index-scan rs ∙ all) ∙ y.0 ∙ x.0 ∙ copies-same 802 (2 * s) 0) (ap (end_in s) (index-scan rs ∙ all) ∙ y.1 ∙ x.1 ∙ copies-same 802 (2 * s + 1) 0)).1
+      (ap (start_in s) (index-scan rs ∙ all) ∙ y.0 ∙ x.0 ∙ ap (λ (x : Span). x.from) (blank-slot s)) (ap (end_in s) (index-scan rs ∙ all) ∙ y.1 ∙ x.1 ∙ ap (λ (x : Span). x.to) (blank-slot s))).1
   together before (r ∷ own) after hb hm ha =
       let mine : List Rule = r ∷ own in
       let rs : List Rule = before ++ (mine ++ after) in
       let b : ℕ = length (stored_rules before) in
-      let x1 : List ℕ = scan 0 before blank in
+      let x1 : List Span = scan 0 before blank in
       let all = scan-append before (mine ++ after) 0 blank ∙ scan-append mine after (0 + b) x1 in
       let x = scan-other s before hb 0 blank in
       let y = scan-other s after ha (0 + b + length (stored_rules mine)) (scan (0 + b) mine x1) in
-      let l : length {A = ℕ} blank ≡ 802 = refl in
+      let l : length {A = Span} blank ≡ 401 = refl in
       let k = slot-le w in
-      let long : 2 * s + 1 < length x1 = let n = scan-length before 0 blank in omega (arith, n, l, k) in
-      let m = scan-first s r own hm (0 + b) x1 long (x.1 ∙ copies-same 802 (2 * s + 1) 0) in
+      let long : s < length x1 = let n = scan-length before 0 blank in omega (arith, n, l, k) in
+      let m = scan-first s r own hm (0 + b) x1 long (x.1 ∙ ap (λ (x : Span). x.to) (blank-slot s)) in
       let from : start_in s (index_of (stored_rules rs)) ≡ b = ap (start_in s) (index-scan rs ∙ all) ∙ y.0 ∙ m.0 ∙ omega arith in
       let to : end_in s (index_of (stored_rules rs)) ≡ b + length (stored_rules mine) = ap (end_in s) (index-scan rs ∙ all) ∙ y.1 ∙ m.1 ∙ omega arith in
       (part-between (index_of (stored_rules rs)) w before mine after from to).1

@@ -4,18 +4,19 @@ use mathlib.Core.Path.{◌≡◌, refl, sym, ap, ap₂, ◌∙◌}
 use mathlib.Core.List.{List, ◌∷◌, ◌++◌}
 use Prim.Native.Nat.{ℕ, ◌-◌}
 use lib.ListN.{length, get_or, take, drop, take-append-drop}
+use Rattle.std.specs.Prelude.{None}
 use Rattle.rules.specs.Finding.{first_fit, moved, first_in, first_at, fitting_of}
 use Rattle.rules.specs.Usual.{opening, NoRules, Spans, Usual}
-use Rattle.rules.specs.declared.finding.Fitting.TheVariants.{Nowhere}
+use Rattle.rules.specs.declared.index.Span.{Span}
 use Rattle.rules.proofs.Placed.{first-none, found-in-own}
 
-pub searched : (ks list index ss : List ℕ) (a b : ℕ) → Spans index (length list) (get_or ss 0 0) a b → first_at ks list index ss ≡ moved a (first_fit ks (take (b - a) (drop a list)) ss)
+pub searched : (ks list : List ℕ) (index : List Span) (ss : List ℕ) (a b : ℕ) → Spans index (length list) (get_or ss 0 0) a b → first_at ks list index ss ≡ moved a (first_fit ks (take (b - a) (drop a list)) ss)
 unfolding first_at first_in
 searched ks list index ss a b h = ap₂ (λ (x y : ℕ). moved x (first_fit ks (take (y - x) (drop x list)) ss)) h.0 h.1
 
-pub unruled : (ks standing own si oi : List ℕ) (w : ℕ) (ws : List ℕ) → NoRules si w → NoRules oi w → fitting_of ks standing own si oi (w ∷ ws) ≡ Nowhere
+pub unruled : (ks standing own : List ℕ) (si oi : List Span) (w : ℕ) (ws : List ℕ) → NoRules si w → NoRules oi w → fitting_of ks standing own si oi (w ∷ ws) ≡ None
 unruled ks standing own si oi w ws hs ho =
     sym (found-in-own ks standing own si oi (w ∷ ws) (first-none ks standing si (w ∷ ws) {w = w} refl hs) refl (first-none ks own oi (w ∷ ws) {w = w} refl ho) refl)
 
-pub usual-begins : (standing si oi : List ℕ) → Usual standing si oi → standing ≡ opening ++ drop 50 standing
+pub usual-begins : (standing : List ℕ) (si oi : List Span) → Usual standing si oi → standing ≡ opening ++ drop 50 standing
 usual-begins standing si oi usual = sym (take-append-drop 50 standing) ∙ ap (λ (l : List ℕ). l ++ drop 50 standing) usual.begins

@@ -1,102 +1,93 @@
 // An index of a stored list by root symbol, so that a search looks only at the rules that can fit.
-// For slot s, word 2s is the place of the first rule whose root has that slot, word 2s + 1 the place past the last; both 0 where there is none.
-ghost use Rattle.std.specs.Prelude.{◌≡◌, ◌+◌, ◌*◌, ◌≤◌, ltb, get_or};
-ghost use Rattle.rules.specs.Index.{slot_of, start_of, least_of, index_of, span_of};
+ghost use Rattle.std.specs.Prelude.{◌≡◌, ◌≤◌, ltb, get_or};
+ghost use Rattle.rules.specs.Index.{slot_of, extended, index_of, span_of, at_slot};
 
-use numbers::size_of_word;
+use crate::stored_rule::stored_at;
+
+// A part of a list: from one place to another.
+#[derive(Clone, Copy, PartialEq, Eq)]
+pub struct Span {
+    pub from: usize,
+    pub to: usize,
+}
+
+impl Span {
+    // A slot's part of the list after one more rule, from `at` to `past`: a slot that had no rule has the end 0.
+    #[tactic(auto, unfolding(crate::specs::Index::start_of))]
+    fn extended(self, at: usize, past: usize) -> Span
+        ensures { result ≡ extended self at past }
+    {
+        Span {
+            from: if self.to == 0 { at } else { self.from },
+            to: past,
+        }
+    }
+}
+
+// For each slot, from the place of the first rule whose root has that slot to the place past the last; both 0 where there is none.
+pub type Index = [Span; 401];
+
+pub(crate) const NO_SPAN: Span = Span { from: 0, to: 0 };
 
 // The slot of a root symbol; all that is neither a small symbol nor a function's shares the last.
+#[tactic(auto, using(std::proofs::lemmas::Bool::Decides::nat_tests), unfolding(crate::specs::Index::slot_of))]
 pub fn slot_of(w: u16) -> usize
     ensures value { result ≡ slot_of w }
     ensures small { result ≤ 400 }
 {
-    if w < 16 {
-        return size_of_word(w);
+    match w {
+        0..=15 => usize::from(w),
+        256..=639 => usize::from(w - 240),
+        _ => 400,
     }
-    if w < 256 {
-        return 400;
-    }
-    if w < 640 {
-        return size_of_word(w - 240);
-    }
-    400
 }
 
 // The word at a place; 0, which is no symbol, past the end.
 pub fn word_at(s: &[u16], at: usize) -> u16
     ensures { result ≡ get_or s.now at 0 }
 {
-    if at < s.len() { s[at] } else { 0 }
+    s.get(at).copied().unwrap_or(0)
 }
 
-// The same of an index: 0 past the end.
-fn number_at(s: &[usize], at: usize) -> usize
-    ensures { result ≡ get_or s.now at 0 }
+// Where an index has the rules of a slot; nowhere past its end.
+fn at_slot(index: &[Span], slot: usize) -> Span
+    ensures { result ≡ at_slot index.now slot }
 {
-    if at < s.len() { s[at] } else { 0 }
-}
-
-// The first place of a slot, after one more rule at `at`: a slot that had no rule has the end 0.
-fn start_of(end: usize, start: usize, at: usize) -> usize
-    ensures { result ≡ start_of end start at }
-{
-    if end == 0 { at } else { start }
+    index.get(slot).copied().unwrap_or(NO_SPAN)
 }
 
 // The index of a stored list. The pass stops where a rule's counts lead past the end; a rule with no left word stands under the word
 // behind its counts.
-pub fn index_of(list: &[u16]) -> [usize; 802]
+pub fn index_of(list: &[u16]) -> Index
     ensures { result ≡ index_of list.now }
 {
-    let mut index = [0usize; 802];
+    let mut index = [NO_SPAN; 401];
     let mut at = 0;
-    while at < list.len() {
-        if list.len() - at < 2 {
-            return index;
-        }
-        let l = size_of_word(list[at]);
-        let r = size_of_word(list[at + 1]);
-        let from = at + 2;
-        if list.len() - from < l + r {
-            return index;
-        }
-        let past = from + (l + r);
-        let start = 2 * slot_of(word_at(list, from));
-        let end = start + 1;
-        index[start] = start_of(index[end], index[start], at);
-        index[end] = past;
-        at = past;
+    while let Some(rule) = stored_at(list, at) {
+        let slot = slot_of(word_at(list, rule.left.from));
+        index[slot] = index[slot].extended(at, rule.past);
+        at = rule.past;
     }
     index
 }
 
 // Whether there are rules with the root w.
-pub fn has_rules(index: &[usize], w: u16) -> bool
-    ensures { result ≡ ltb 0 (get_or index.now (2 * slot_of w + 1) 0) }
+pub fn has_rules(index: &[Span], w: u16) -> bool
+    ensures { result ≡ ltb 0 (at_slot index.now (slot_of w)).to }
 {
-    0 < number_at(index, 2 * slot_of(w) + 1)
-}
-
-// A part of a list: from one place to another.
-#[derive(Clone, Copy)]
-pub struct Span {
-    pub from: usize,
-    pub to: usize,
-}
-
-fn least(a: usize, b: usize) -> usize
-    ensures { result ≡ least_of a b }
-{
-    if a < b { a } else { b }
+    0 < at_slot(index, slot_of(w)).to
 }
 
 // The part of a list of so many words in which the rules with the root w stand, clipped to the list whatever the index holds.
-pub fn span_of(index: &[usize], len: usize, w: u16) -> Span
+#[tactic(auto, using(std::proofs::lemmas::Bool::Decides::nat_tests), unfolding(crate::specs::Index::span_of, crate::specs::Index::least_of))]
+pub fn span_of(index: &[Span], len: usize, w: u16) -> Span
     ensures value { result ≡ span_of index.now len w }
     ensures inside { (result.from ≤ result.to) × (result.to ≤ len) }
 {
-    let start = 2 * slot_of(w);
-    let to = least(number_at(index, start + 1), len);
-    let from = least(number_at(index, start), to);
-    Span { from, to }
+    let span = at_slot(index, slot_of(w));
+    let to = span.to.min(len);
+    Span {
+        from: span.from.min(to),
+        to,
+    }
 }

@@ -4,6 +4,9 @@
 
 pub mod finding;
 pub mod index;
+pub mod lists;
 pub mod matching;
+pub mod search;
+pub mod stored_rule;
 pub mod table;
 pub mod usual;

@@ -9,17 +9,18 @@ use lib.Dec.{eqb, ltb}
 use lib.ListN.{length, get_or, drop, set, replicate, length-set}
 use lib.Seq.{get_or-set_same}
 use borrow.Author.Tests.{ltb-true}
+use Rattle.std.specs.Prelude.{Option, Some, None}
 use Rattle.theory.specs.Syntax.{pick}
 use Rattle.theory.specs.Tree.{Tree, Trees, var, node, [·], ◌▹◌, size, len}
 use Rattle.theory.specs.Words.{words, all_words, is_var, Shaped, Shapeds}
 use Rattle.theory.proofs.Tests.{eq-of-eqb}
 use Rattle.theory.proofs.Readability.{is_var-word}
-use Rattle.words.specs.declared.terms.Reach.{Reach}
-use Rattle.words.specs.declared.terms.Reach.TheVariants.{End, Short}
 use Rattle.words.specs.Terms.{arity_of, past, skip_at}
-use Rattle.words.proofs.Skips.{past-none, past-step, skip-then, never}
+use Rattle.words.proofs.Skips.{past-none, past-step, skip-then}
 use Rattle.words.proofs.Trees.{skip-tree}
 use Rattle.rules.specs.Matching.{takes, reached, fits, noted, binds}
+use Rattle.rules.specs.Index.{no_span, at_slot}
+use Rattle.rules.specs.declared.index.Span.{Span}
 use Rattle.rules.proofs.Takes.{is_var-slot, takes-var}
 use Rattle.step.specs.Next.{past_by, end_by}
 use Rattle.step.proofs.Ruled.{past-var, past-plain}
@@ -29,26 +30,26 @@ any_var [] = false
 any_var (p ∷ ps) = pick (is_var p) true (any_var ps)
 
 -- ---- the slot of a variable that is noted
-noted-plain : (E : List ℕ) (p x : ℕ) → is_var p ≡ false → noted E p x ≡ E
+noted-plain : (E : List Span) (p : ℕ) (x : Span) → is_var p ≡ false → noted E p x ≡ E
 unfolding noted
 noted-plain E p x v = ap (λ (b : Bool). pick b (set E (p - 64) x) E) v
 
-noted-var : (E : List ℕ) (p x : ℕ) → is_var p ≡ true → noted E p x ≡ set E (p - 64) x
+noted-var : (E : List Span) (p : ℕ) (x : Span) → is_var p ≡ true → noted E p x ≡ set E (p - 64) x
 unfolding noted
 noted-var E p x v = ap (λ (b : Bool). pick b (set E (p - 64) x) E) v
 
-noted-length : (E : List ℕ) (p x : ℕ) → length E ≡ 8 → length (noted E p x) ≡ 8
+noted-length : (E : List Span) (p : ℕ) (x : Span) → length E ≡ 8 → length (noted E p x) ≡ 8
 noted-length E p x l = go (is_var p) refl
   where
     go : (v : Bool) → is_var p ≡ v → length (noted E p x) ≡ 8
     go true v = ap length (noted-var E p x v) ∙ simp length-set l
     go false v = ap length (noted-plain E p x v) ∙ l
 
-noted-there : (E : List ℕ) (p x : ℕ) → length E ≡ 8 → is_var p ≡ true → get_or (noted E p x) (p - 64) 0 ≡ x
+noted-there : (E : List Span) (p : ℕ) (x : Span) → length E ≡ 8 → is_var p ≡ true → at_slot (noted E p x) (p - 64) ≡ x
 noted-there E p x l v =
     let s = (is_var-slot p v).1 in
     let i : p - 64 < length E = omega (arith, s, l) in
-    ap (λ (e : List ℕ). get_or e (p - 64) 0) (noted-var E p x v) ∙ get_or-set_same E (p - 64) x 0 i
+    ap (λ (e : List Span). at_slot e (p - 64)) (noted-var E p x v) ∙ get_or-set_same E (p - 64) x no_span i
 
 module _ (ks ss : List ℕ) where
   -- the place past what the words of a left side take
@@ -61,51 +62,55 @@ module _ (ks ss : List ℕ) where
     within : j < length ss
     same : s ≡ get_or ss j 0
 
-  plain : (s j e : ℕ) → is_var s ≡ false → takes ks ss s j ≡ End e → Plain s j e
+  plain : (s j e : ℕ) → is_var s ≡ false → takes ks ss s j ≡ Some e → Plain s j e
   unfolding takes
   plain s j e v q = go (is_var s) v (ltb j (length ss)) refl (eqb s (get_or ss j 0)) refl q
     where
-      go : (a : Bool) → a ≡ false → (b : Bool) → ltb j (length ss) ≡ b → (c : Bool) → eqb s (get_or ss j 0) ≡ c → pick a (skip_at ks ss j) (pick b (pick c (End (j + 1)) Short) Short) ≡ End e → Plain s j e
+      go : (a : Bool) → a ≡ false → (b : Bool) → ltb j (length ss) ≡ b → (c : Bool) → eqb s (get_or ss j 0) ≡ c → pick a (skip_at ks ss j) (pick b (pick c (Some (j + 1)) None) None) ≡ Some e → Plain s j e
       go true a b t c u k = absurd (false≢true (sym a))
       go false a true t true u k = let m : j + 1 ≡ e = cc in record { next = sym m; within = ltb-true j (length ss) t; same = eq-of-eqb s (get_or ss j 0) u }
-      go false a true t false u k = never e k
-      go false a false t c u k = never e k
+      go false a true t false u k = cc
+      go false a false t c u k = cc
 
-  -- words with no variable leave the ends as they are
-  ends-kept : (ps : List ℕ) (j : ℕ) (S E : List ℕ) → any_var ps ≡ false → (binds ks ss ps j S E).ends ≡ E
+  -- the slots after the word p, which takes the words from j up to e
+  abbrev taken : List Span → ℕ → ℕ → ℕ → List Span
+  taken B p j e = noted B p (record { from = j; to = e })
+
+  -- words with no variable leave the slots as they are
+  slots-kept : (ps : List ℕ) (j : ℕ) (B : List Span) → any_var ps ≡ false → binds ks ss ps j B ≡ B
   unfolding binds
-  ends-kept [] j S E e = refl
-  ends-kept (p ∷ ps) j S E e = go (is_var p) refl e (takes ks ss p j) (λ x S' E' k. ends-kept ps x S' E' k)
+  slots-kept [] j B e = refl
+  slots-kept (p ∷ ps) j B e = go (is_var p) refl e (takes ks ss p j) (λ x B' k. slots-kept ps x B' k)
     where
-      go : (v : Bool) → is_var p ≡ v → pick v true (any_var ps) ≡ false → (r : Reach) → ((x : ℕ) (S E : List ℕ) → any_var ps ≡ false → (binds ks ss ps x S E).ends ≡ E)
-          → (reached r (λ e. binds ks ss ps e (noted S p j) (noted E p e)) (record { starts = S; ends = E })).ends ≡ E
+      go : (v : Bool) → is_var p ≡ v → pick v true (any_var ps) ≡ false → (r : Option ℕ) → ((x : ℕ) (B : List Span) → any_var ps ≡ false → binds ks ss ps x B ≡ B)
+          → reached r (λ e. binds ks ss ps e (taken B p j e)) B ≡ B
       go true v k r ih = absurd (false≢true (sym k))
-      go false v k Short ih = refl
-      go false v k (End x) ih = ih x (noted S p j) (noted E p x) k ∙ noted-plain E p x v
+      go false v k None ih = refl
+      go false v k (Some x) ih = ih x (taken B p j x) k ∙ noted-plain B p (record { from = j; to = x }) v
 
-  end_is : (ps : List ℕ) (j i : ℕ) (S E : List ℕ) → length E ≡ 8 → fits ks ss ps j ≡ true → (i ≡ j) ⊎ (any_var ps ≡ true) → end_by (binds ks ss ps j S E).ends ps i ≡ walk ps j
+  end_is : (ps : List ℕ) (j i : ℕ) (B : List Span) → length B ≡ 8 → fits ks ss ps j ≡ true → (i ≡ j) ⊎ (any_var ps ≡ true) → end_by (binds ks ss ps j B) ps i ≡ walk ps j
   unfolding binds fits end_by
-  end_is [] j i S E l f h = elim h [ inl e ↦ e | inr e ↦ absurd (false≢true e) ]
-  end_is (p ∷ ps) j i S E l f h = go (takes ks ss p j) refl f (is_var p) refl h (λ x y S' E' a b c. end_is ps x y S' E' a b c)
+  end_is [] j i B l f h = elim h [ inl e ↦ e | inr e ↦ absurd (false≢true e) ]
+  end_is (p ∷ ps) j i B l f h = go (takes ks ss p j) refl f (is_var p) refl h (λ x y B' a b c. end_is ps x y B' a b c)
     where
-      go : (r : Reach) → takes ks ss p j ≡ r → reached r (fits ks ss ps) false ≡ true → (v : Bool) → is_var p ≡ v → (i ≡ j) ⊎ (pick v true (any_var ps) ≡ true)
-          → ((x y : ℕ) (S E : List ℕ) → length E ≡ 8 → fits ks ss ps x ≡ true → (y ≡ x) ⊎ (any_var ps ≡ true) → end_by (binds ks ss ps x S E).ends ps y ≡ walk ps x)
-          → let b = reached r (λ e. binds ks ss ps e (noted S p j) (noted E p e)) (record { starts = S; ends = E }) in
-          end_by b.ends ps (past_by b.ends p i) ≡ reached r (walk ps) j
-      go Short q f v e h ih = absurd (false≢true f)
-      go (End x) q f true v h ih = any (any_var ps) refl
+      go : (r : Option ℕ) → takes ks ss p j ≡ r → reached r (fits ks ss ps) false ≡ true → (v : Bool) → is_var p ≡ v → (i ≡ j) ⊎ (pick v true (any_var ps) ≡ true)
+          → ((x y : ℕ) (B : List Span) → length B ≡ 8 → fits ks ss ps x ≡ true → (y ≡ x) ⊎ (any_var ps ≡ true) → end_by (binds ks ss ps x B) ps y ≡ walk ps x)
+          → let b = reached r (λ e. binds ks ss ps e (taken B p j e)) B in
+          end_by b ps (past_by b p i) ≡ reached r (walk ps) j
+      go None q f v e h ih = absurd (false≢true f)
+      go (Some x) q f true v h ih = any (any_var ps) refl
         where
-          b : List ℕ
-          b = (binds ks ss ps x (noted S p j) (noted E p x)).ends
+          b : List Span
+          b = binds ks ss ps x (taken B p j x)
 
           any : (a : Bool) → any_var ps ≡ a → end_by b ps (past_by b p i) ≡ walk ps x
-          any true k = ih x (past_by b p i) (noted S p j) (noted E p x) (noted-length E p x l) f (inr k)
+          any true k = ih x (past_by b p i) (taken B p j x) (noted-length B p (record { from = j; to = x }) l) f (inr k)
           any false k =
-              ih x (past_by b p i) (noted S p j) (noted E p x) (noted-length E p x l) f
-              (inl (sym (past-var b p i v) ∙ ap (λ (e : List ℕ). get_or e (p - 64) 0) (ends-kept ps x (noted S p j) (noted E p x) k) ∙ noted-there E p x l v))
-      go (End x) q f false v h ih =
-          let b = (binds ks ss ps x (noted S p j) (noted E p x)).ends in
-          ih x (past_by b p i) (noted S p j) (noted E p x) (noted-length E p x l) f
+              ih x (past_by b p i) (taken B p j x) (noted-length B p (record { from = j; to = x }) l) f
+              (inl (sym (past-var b p i v) ∙ ap (λ (s : List Span). (at_slot s (p - 64)).to) (slots-kept ps x (taken B p j x) k) ∙ ap (λ (s : Span). s.to) (noted-there B p (record { from = j; to = x }) l v)))
+      go (Some x) q f false v h ih =
+          let b = binds ks ss ps x (taken B p j x) in
+          ih x (past_by b p i) (taken B p j x) (noted-length B p (record { from = j; to = x }) l) f
           (elim h [ inl e ↦ inl (sym (past-plain b p i v) ∙ ap (λ (n : ℕ). n + 1) e ∙ sym (plain p j x v q).next) | inr e ↦ inr e ])
 
   -- ---- a shaped left side that fits ends where the tree ends
@@ -117,7 +122,7 @@ module _ (ks ss : List ℕ) where
 
   record Word (p : ℕ) (ps : List ℕ) (j : ℕ) : Type 0 where
     to : ℕ
-    takes-it : takes ks ss p j ≡ End to
+    takes-it : takes ks ss p j ≡ Some to
     fit : fits ks ss (p ∷ ps) j ≡ fits ks ss ps to
     walks : walk (p ∷ ps) j ≡ walk ps to
 
@@ -125,9 +130,9 @@ module _ (ks ss : List ℕ) where
   unfolding fits
   word p ps j f = go (takes ks ss p j) refl f
     where
-      go : (r : Reach) → takes ks ss p j ≡ r → reached r (fits ks ss ps) false ≡ true → Word p ps j
-      go Short q g = absurd (false≢true g)
-      go (End e) q g = record { to = e; takes-it = q; fit = ap (λ (r : Reach). reached r (fits ks ss ps) false) q; walks = ap (λ (r : Reach). reached r (walk ps) j) q }
+      go : (r : Option ℕ) → takes ks ss p j ≡ r → reached r (fits ks ss ps) false ≡ true → Word p ps j
+      go None q g = absurd (false≢true g)
+      go (Some e) q g = record { to = e; takes-it = q; fit = ap (λ (r : Option ℕ). reached r (fits ks ss ps) false) q; walks = ap (λ (r : Option ℕ). reached r (walk ps) j) q }
 
   mutual
     tree-past : (l : Tree) (ps : List ℕ) (j : ℕ) → Shaped (arity_of ks) l → fits ks ss (words l ++ ps) j ≡ true → Past (words l ++ ps) ps j 1
@@ -169,12 +174,12 @@ module _ (ks ss : List ℕ) where
 
   -- THE END: the left side's words fit the tree at the front
   pub left-ends : (l t : Tree) (rest : List ℕ) → Shaped (arity_of ks) l → Shaped (arity_of ks) t → ss ≡ words t ++ rest → fits ks ss (words l) 0 ≡ true
-      → end_by (binds ks ss (words l) 0 (replicate 8 0) (replicate 8 0)).ends (words l) 0 ≡ size t
+      → end_by (binds ks ss (words l) 0 (replicate 8 no_span)) (words l) 0 ≡ size t
   unfolding skip_at
   left-ends l t rest hl ht e f =
       let n = append-nil (words l) in
       let r = tree-past l [] 0 hl (ap (λ (x : List ℕ). fits ks ss x 0) n ∙ f) in
-      let s : past (arity_of ks) ss 1 0 ≡ End (0 + size t) = skip-tree ks ss 0 t rest ht e in
-      let k : End r.to ≡ End (0 + size t) = sym (r.passes 0 ∙ past-none (arity_of ks) (drop r.to ss) r.to) ∙ s in
+      let s : past (arity_of ks) ss 1 0 ≡ Some (0 + size t) = skip-tree ks ss 0 t rest ht e in
+      let k : Some r.to ≡ Some (0 + size t) = sym (r.passes 0 ∙ past-none (arity_of ks) (drop r.to ss) r.to) ∙ s in
       let m : r.to ≡ 0 + size t = cc in
-      end_is (words l) 0 0 (replicate 8 0) (replicate 8 0) refl f (inl refl) ∙ sym (ap (λ (x : List ℕ). walk x 0) n) ∙ r.walks ∙ omega (arith, m)
+      end_is (words l) 0 0 (replicate 8 no_span) refl f (inl refl) ∙ sym (ap (λ (x : List ℕ). walk x 0) n) ∙ r.walks ∙ omega (arith, m)

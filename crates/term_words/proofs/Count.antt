@@ -12,10 +12,12 @@ use Rattle.theory.specs.Tree.{size, sizes}
 use Rattle.theory.specs.Translation.{tree, trees}
 use Rattle.theory.specs.Bytes.{TermRecord, constant_record, succ_record, if_record, variable_record, raise_record, handle_record, call_record, record_parts, record_words, first_terms, later_terms, term_from, terms_from}
 use Rattle.theory.proofs.Tests.{eqb-false}
+use Rattle.std.specs.Prelude.{Option, Some, None}
+use Rattle.record.specs.declared.Record.{Record}
 use Rattle.record.specs.Record.{record_at}
 use Rattle.term_words.specs.declared.roots.Root.{Root}
-use Rattle.term_words.specs.Records.{records_past, record_bytes, Whole, after, span_of, count_of, from, Passed}
-use Rattle.term_words.specs.Roots.{exception_of, term_record_at, root_at}
+use Rattle.term_words.specs.Records.{term_record_of, record_then, length_of, records_past, record_bytes, Whole, after, span_of, count_of, from, Passed}
+use Rattle.term_words.specs.Roots.{exception_of, exception_words, term_record_at, root_at}
 use Rattle.term_words.proofs.Laws.{whole_split, whole-many, whole-first, record-there, record-inside, after_none, span_none, count_none}
 
 -- a term's words: its root's and its parts'
@@ -55,24 +57,28 @@ count-words (k ∷ ks) (suc n) h =
     omega (arith, size-make k (terms_from ks) m, first-split (terms_from ks) a n, count-words ks (a + n) h)
 
 -- raise and handle, the records with an exception, are two words
-pub two-words : (k : TermRecord) → record_words k ≡ pick (eqb (exception_of k) 0) 1 2
+pub two-words : (k : TermRecord) → record_words k ≡ 1 + length (exception_words (exception_of k))
 two-words (constant_record b) = refl
 two-words succ_record = refl
 two-words if_record = refl
 two-words (variable_record x) = refl
-two-words (raise_record e) = sym (ap (λ (b : Bool). pick b 1 2) (eqb-false (32 + e) 0 (omega arith)))
-two-words (handle_record e) = sym (ap (λ (b : Bool). pick b 1 2) (eqb-false (32 + e) 0 (omega arith)))
+two-words (raise_record e) = refl
+two-words (handle_record e) = refl
 two-words (call_record k n) = refl
 
 -- there are no more terms than bytes
 records-length : (arities : List ℕ) (n : ℕ) (l : List ℕ) → length (records_past arities n l) ≤ length l
 unfolding records_past
 records-length arities zero [] = omega arith
-records-length arities zero (k ∷ bs) = go (eqb (record_at (k ∷ bs) 0).len 1 || eqb (record_at (k ∷ bs) 0).len 2) _ _ (records-length arities ((record_at (k ∷ bs) 0).len - 1) bs)
+records-length arities zero (k ∷ bs) = there (record_at (k ∷ bs) 0) _ (records-length arities (length_of (record_at (k ∷ bs) 0) - 1) bs)
   where
     go : (b : Bool) (t : TermRecord) (ks : List TermRecord) → length ks ≤ length bs → length (pick b (t ∷ ks) []) ≤ length (k ∷ bs)
     go true t ks h = omega (arith, h)
     go false t ks h = omega arith
+
+    there : (o : Option Record) (ks : List TermRecord) → length ks ≤ length bs → length (record_then arities o ks) ≤ length (k ∷ bs)
+    there None ks h = omega arith
+    there (Some r) ks h = go (eqb r.len 1 || eqb r.len 2) (term_record_of arities (Some r)) ks h
 records-length arities (suc n) [] = omega arith
 records-length arities (suc n) (k ∷ bs) = omega (arith, records-length arities n bs)
 
@@ -98,8 +104,8 @@ pub going_start : (arities bytes : List ℕ) (p n : ℕ) → p ≤ length bytes 
 going_start arities bytes p n h w = record { inside = h; few = few-terms arities bytes p n w; whole = w; place = refl; words = zero-add (count_of (from arities bytes p) n); rest = refl }
 
 pub going-turn : (arities bytes : List ℕ) (p n owed next count : ℕ) (r : Root) → Going arities bytes p n owed next count → 0 < owed → r ≡ root_at arities bytes next
-    → Going arities bytes p n (owed - 1 + r.parts) r.next (count + pick (eqb r.exception 0) 1 2)
-going-turn arities bytes p n owed next count r g h e = subst (λ (x : Root). Going arities bytes p n (owed - 1 + x.parts) x.next (count + pick (eqb x.exception 0) 1 2)) (sym e) there
+    → Going arities bytes p n (owed - 1 + r.parts) r.next (count + (1 + length (exception_words r.exception)))
+going-turn arities bytes p n owed next count r g h e = subst (λ (x : Root). Going arities bytes p n (owed - 1 + x.parts) x.next (count + (1 + length (exception_words x.exception)))) (sym e) there
   where
     k : TermRecord
     k = term_record_at arities bytes next
@@ -119,7 +125,7 @@ going-turn arities bytes p n owed next count r g h e = subst (λ (x : Root). Goi
     eq : from arities bytes next ≡ k ∷ from arities bytes (next + record_bytes k)
     eq = record-there arities bytes next one
 
-    there : Going arities bytes p n (m + record_parts k) (next + record_bytes k) (count + pick (eqb (exception_of k) 0) 1 2)
+    there : Going arities bytes p n (m + record_parts k) (next + record_bytes k) (count + (1 + length (exception_words (exception_of k))))
     there =
         let w : Whole (from arities bytes (next + record_bytes k)) (record_parts k + m) = subst (λ (ks : List TermRecord). Whole ks (suc m)) eq (subst (Whole (from arities bytes next)) more g.whole) in
         let w' = subst (Whole (from arities bytes (next + record_bytes k))) swap w in

@@ -5,6 +5,7 @@ use mathlib.Core.List.{List, [], ◌∷◌, ◌++◌, append_assoc, append-nil}
 use Prim.Native.Nat.{ℕ, zero, suc, ◌+◌, ◌-◌, ◌≤◌, ◌<◌}
 use native.Mathlib.Omega.{arith}
 use lib.Dec.{eqb}
+use Rattle.std.proofs.Common.{Option, None}
 use lib.ListN.{length, get_or, set, length-set}
 use lib.Seq.{get_or-set_same, get_or-set_other}
 use Rattle.theory.specs.Syntax.{pick}
@@ -13,12 +14,13 @@ use Rattle.theory.specs.Translation.{trees}
 use Rattle.theory.specs.Bytes.{TermRecord, record_parts, first_terms}
 use Rattle.theory.proofs.SidesRefuse.{record-counts}
 use Rattle.theory.proofs.Tests.{eq-of-eqb, ne-of-eqb}
+use Rattle.generated.specs.declared.writing.Writer.{Writer}
 use Rattle.generated.specs.Wrote.{Room, Wrote}
 use Rattle.generated.proofs.Writes.{wrote_none, wrote_as, wrote_then, room_as, room-first, room-then}
 use Rattle.term_words.specs.declared.roots.Root.{Root}
 use Rattle.term_words.specs.Records.{record_bytes, Whole, count_of, from, terms_at, Passed}
-use Rattle.term_words.specs.Roots.{term_record_at, root_at, root_words}
-use Rattle.term_words.specs.Late.{late_words, kept, Clear}
+use Rattle.term_words.specs.Roots.{term_record_at, root_at, root_words, exception_words}
+use Rattle.term_words.specs.Late.{kept, Clear}
 use Rattle.term_words.proofs.Laws.{whole-first, record-there, root-handles}
 use Rattle.term_words.proofs.Count.{Going, going_start, going-turn, going_end}
 use Rattle.term_words.proofs.Late.{out, out_none, out-set, out-all, out-record, kept-length}
@@ -30,46 +32,46 @@ whole-count [] (suc n) h = absurd h
 whole-count (k ∷ ks) zero h = omega arith
 whole-count (k ∷ ks) (suc n) h = omega (arith, whole-count ks (record_parts k + n) h, record-counts k)
 
--- The loop: n terms from p on are written from the place `at` on into d. `owed` of them, or of their parts, are still to come, from the place
--- `next` on; d' holds what is written, up to the place `to`.
-pub record Putting (arities bytes : List ℕ) (p n at : ℕ) (d : List ℕ) (owed next to : ℕ) (late d' : List ℕ) : Type 0 where
+-- The loop: n terms from p on are written, from the writer u on. `owed` of them, or of their parts, are still to come, from the place `next`
+-- on; v is the writer past what is written.
+pub record Putting (arities bytes : List ℕ) (p n : ℕ) (u : Writer) (owed next : ℕ) (late : List (Option ℕ)) (v : Writer) : Type 0 where
   pub done : List ℕ
   pub count : ℕ
   pub going : Going arities bytes p n owed next count
   pub clear : Clear late owed
   pub slots : count_of (from arities bytes p) n < length late
-  pub wrote : Wrote done at d d' to
+  pub wrote : Wrote done u v
   pub all : all_words (trees (first_terms n (terms_at arities bytes p))) ≡ done ++ out (from arities bytes next) owed late
 
-pub putting-start : (arities bytes : List ℕ) (p n at : ℕ) (d late : List ℕ) → p ≤ length bytes → Whole (from arities bytes p) n → count_of (from arities bytes p) n < length late → Clear late 0
-    → Putting arities bytes p n at d n p at late d
-putting-start arities bytes p n at d late h w s c =
+pub putting-start : (arities bytes : List ℕ) (p n : ℕ) (u : Writer) (late : List (Option ℕ)) → p ≤ length bytes → Whole (from arities bytes p) n → count_of (from arities bytes p) n < length late → Clear late 0
+    → Putting arities bytes p n u n p late u
+putting-start arities bytes p n u late h w s c =
     record {
       done = [];
       count = 0;
       going = going_start arities bytes p n h w;
       clear = record { none = λ j k. c.none j (omega arith) };
       slots = s;
-      wrote = wrote_none at d;
+      wrote = wrote_none u;
       all = sym (out-all (from arities bytes p) n late c w);
     }
 
-pub putting-end : {arities bytes : List ℕ} {p n at next to : ℕ} {d late d' : List ℕ} → Putting arities bytes p n at d 0 next to late d'
-    → Passed arities bytes p n next × Wrote (all_words (trees (first_terms n (terms_at arities bytes p)))) at d d' to
-putting-end {arities} {bytes} {p} {n} {at} {next} {to} {d} {late} {d'} g = (
+pub putting-end : {arities bytes : List ℕ} {p n next : ℕ} {u v : Writer} {late : List (Option ℕ)} → Putting arities bytes p n u 0 next late v
+    → Passed arities bytes p n next × Wrote (all_words (trees (first_terms n (terms_at arities bytes p)))) u v
+putting-end {arities} {bytes} {p} {n} {next} {u} {v} {late} g = (
   (going_end arities bytes p n next g.count g.going).0,
   wrote_as (sym (g.all ∙ ap (g.done ++◌) (out_none (from arities bytes next) late) ∙ append-nil g.done)) g.wrote,
 )
 
 -- one turn of it, at the root r
-module _ {arities bytes : List ℕ} {p n at : ℕ} {d : List ℕ} {owed next to : ℕ} {late d' : List ℕ} (g : Putting arities bytes p n at d owed next to late d') (more : 0 < owed) (r : Root) (read : r ≡ root_at arities bytes next) where
+module _ {arities bytes : List ℕ} {p n : ℕ} {u : Writer} {owed next : ℕ} {late : List (Option ℕ)} {v : Writer} (g : Putting arities bytes p n u owed next late v) (more : 0 < owed) (r : Root) (read : r ≡ root_at arities bytes next) where
   abbrev pub owes : ℕ
   owes = owed - 1 + r.parts
 
-  abbrev pub keeps : List ℕ
+  abbrev pub keeps : List (Option ℕ)
   keeps = kept late owed r.word r.exception
 
-  pub turned : Going arities bytes p n owes r.next (g.count + pick (eqb r.exception 0) 1 2)
+  pub turned : Going arities bytes p n owes r.next (g.count + (1 + length (exception_words r.exception)))
   turned = going-turn arities bytes p n owed next g.count r g.going more read
 
   pub owed-inside : owed < length late
@@ -81,7 +83,7 @@ module _ {arities bytes : List ℕ} {p n at : ℕ} {d : List ℕ} {owed next to 
   abbrev Read : Root → Type 0
   Read x =
       out (from arities bytes next) owed late
-      ≡ root_words x.word x.exception ++ (late_words (get_or (kept late owed x.word x.exception) (owed - 1 + x.parts) 0) ++ out (from arities bytes x.next) (owed - 1 + x.parts) (kept late owed x.word x.exception))
+      ≡ root_words x.word x.exception ++ (exception_words (get_or (kept late owed x.word x.exception) (owed - 1 + x.parts) None) ++ out (from arities bytes x.next) (owed - 1 + x.parts) (kept late owed x.word x.exception))
 
   out-read : Read r
   out-read =
@@ -93,56 +95,56 @@ module _ {arities bytes : List ℕ} {p n at : ℕ} {d : List ℕ} {owed next to 
   rest = out (from arities bytes r.next) owes keeps
 
   -- nothing is kept from there on
-  clear-turn : Clear (set keeps owes 0) owes
+  clear-turn : Clear (set keeps owes None) owes
   clear-turn = record { none = λ j h. each j h (eqb j owes) refl }
     where
-      high : (j : ℕ) → owes < j → (b : Bool) → eqb r.word 12 ≡ b → get_or (pick b (set late owed r.exception) late) j 0 ≡ 0
+      high : (j : ℕ) → owes < j → (b : Bool) → eqb r.word 12 ≡ b → get_or (pick b (set late owed r.exception) late) j None ≡ None
       high j h true e =
           let two = root-handles arities bytes next r read (eq-of-eqb r.word 12 e) in
-          get_or-set_other late owed j r.exception 0 (λ q. omega (arith, two, h, q)) ∙ g.clear.none j (omega (arith, h))
+          get_or-set_other late owed j r.exception None (λ q. omega (arith, two, h, q)) ∙ g.clear.none j (omega (arith, h))
       high j h false e = g.clear.none j (omega arith)
 
-      each : (j : ℕ) → owes ≤ j → (b : Bool) → eqb j owes ≡ b → get_or (set keeps owes 0) j 0 ≡ 0
-      each j h true e = subst (λ (i : ℕ). get_or (set keeps owes 0) i 0 ≡ 0) (sym (eq-of-eqb j owes e)) (get_or-set_same keeps owes 0 0 keeps-inside)
+      each : (j : ℕ) → owes ≤ j → (b : Bool) → eqb j owes ≡ b → get_or (set keeps owes None) j None ≡ None
+      each j h true e = subst (λ (i : ℕ). get_or (set keeps owes None) i None ≡ None) (sym (eq-of-eqb j owes e)) (get_or-set_same keeps owes None None keeps-inside)
       each j h false e =
           let other = ne-of-eqb j owes e in
-          get_or-set_other keeps owes j 0 0 other ∙ high j (omega (arith, h, other)) (eqb r.word 12) refl
+          get_or-set_other keeps owes j None None other ∙ high j (omega (arith, h, other)) (eqb r.word 12) refl
 
   -- there is room for the root's words
-  module _ (fits : Room (all_words (trees (first_terms n (terms_at arities bytes p)))) at d) where
-    room-owed : Room (root_words r.word r.exception ++ (late_words (get_or keeps owes 0) ++ rest)) to d'
-    room-owed = room_as to d' out-read (room-then g.done (out (from arities bytes next) owed late) at to d d' g.wrote (room_as at d g.all fits))
+  module _ (fits : Room (all_words (trees (first_terms n (terms_at arities bytes p)))) u) where
+    room-owed : Room (root_words r.word r.exception ++ (exception_words (get_or keeps owes None) ++ rest)) v
+    room-owed = room_as v out-read (room-then g.done (out (from arities bytes next) owed late) g.wrote (room_as u g.all fits))
 
-    pub room-root : Room (root_words r.word r.exception) to d'
-    room-root = room-first (root_words r.word r.exception) (late_words (get_or keeps owes 0) ++ rest) to d' room-owed
+    pub room-root : Room (root_words r.word r.exception) v
+    room-root = room-first (root_words r.word r.exception) (exception_words (get_or keeps owes None) ++ rest) v room-owed
 
   -- and behind them, with l the exceptions that are kept now, for what is kept for as many terms as are owed then
-  module _ (l : List ℕ) (so : l ≡ keeps) {behind : ℕ} {d₂ : List ℕ} (w : Wrote (root_words r.word r.exception) to d' d₂ behind) where
+  module _ (l : List (Option ℕ)) (so : l ≡ keeps) {b : Writer} (w : Wrote (root_words r.word r.exception) v b) where
     pub owes-inside : owes < length l
-    owes-inside = subst (λ (x : List ℕ). owes < length x) (sym so) keeps-inside
+    owes-inside = subst (λ (x : List (Option ℕ)). owes < length x) (sym so) keeps-inside
 
-    pub room-late : Room (all_words (trees (first_terms n (terms_at arities bytes p)))) at d → Room (late_words (get_or l owes 0)) behind d₂
+    pub room-late : Room (all_words (trees (first_terms n (terms_at arities bytes p)))) u → Room (exception_words (get_or l owes None)) b
     room-late fits =
-        subst (λ (x : List ℕ). Room (late_words (get_or x owes 0)) behind d₂) (sym so)
-        (room-first (late_words (get_or keeps owes 0)) rest behind d₂ (room-then (root_words r.word r.exception) (late_words (get_or keeps owes 0) ++ rest) to behind d' d₂ w (room-owed fits)))
+        subst (λ (x : List (Option ℕ)). Room (exception_words (get_or x owes None)) b) (sym so)
+        (room-first (exception_words (get_or keeps owes None)) rest b (room-then (root_words r.word r.exception) (exception_words (get_or keeps owes None) ++ rest) w (room-owed fits)))
 
-    pub putting-turn : {to' : ℕ} {d₃ : List ℕ} → Wrote (late_words (get_or l owes 0)) behind d₂ d₃ to' → Putting arities bytes p n at d owes r.next to' (set l owes 0) d₃ × (length (set l owes 0) ≡ length late)
-    putting-turn {to'} {d₃} v =
+    pub putting-turn : {v' : Writer} → Wrote (exception_words (get_or l owes None)) b v' → Putting arities bytes p n u owes r.next (set l owes None) v' × (length (set l owes None) ≡ length late)
+    putting-turn {v'} x =
         let root = root_words r.word r.exception in
-        let now = late_words (get_or l owes 0) in
-        let then = out (from arities bytes r.next) owes (set l owes 0) in
-        let same : length (set l owes 0) ≡ length late = length-set l owes 0 ∙ ap length so ∙ kept-length late owed r.word r.exception in (
+        let now = exception_words (get_or l owes None) in
+        let then = out (from arities bytes r.next) owes (set l owes None) in
+        let same : length (set l owes None) ≡ length late = length-set l owes None ∙ ap length so ∙ kept-length late owed r.word r.exception in (
           record {
             done = g.done ++ (root ++ now);
-            count = g.count + pick (eqb r.exception 0) 1 2;
+            count = g.count + (1 + length (exception_words r.exception));
             going = turned;
-            clear = subst (λ (x : List ℕ). Clear (set x owes 0) owes) (sym so) clear-turn;
+            clear = subst (λ (x : List (Option ℕ)). Clear (set x owes None) owes) (sym so) clear-turn;
             slots = omega (arith, g.slots, same);
-            wrote = wrote_then g.wrote (wrote_then w v);
+            wrote = wrote_then g.wrote (wrote_then w x);
             all = g.all
                 ∙ ap (g.done ++◌)
-                (subst (λ (x : List ℕ). out (from arities bytes next) owed late ≡ root ++ (late_words (get_or x owes 0) ++ out (from arities bytes r.next) owes x)) (sym so) out-read
-                ∙ ap (λ (x : List ℕ). root ++ (now ++ x)) (sym (out-set (from arities bytes r.next) owes owes 0 l (omega arith))) ∙ sym (append_assoc root now then))
+                (subst (λ (x : List (Option ℕ)). out (from arities bytes next) owed late ≡ root ++ (exception_words (get_or x owes None) ++ out (from arities bytes r.next) owes x)) (sym so) out-read
+                ∙ ap (λ (x : List ℕ). root ++ (now ++ x)) (sym (out-set (from arities bytes r.next) owes owes None l (omega arith))) ∙ sym (append_assoc root now then))
                 ∙ sym (append_assoc g.done (root ++ now) then);
           },
           same,

@@ -17,17 +17,17 @@ use Rattle.theory.proofs.RecordsOfTerms.{bytes_tok, bytes_toks, words_toks, flat
 use Rattle.theory.proofs.SidesRead.{low-call, high-call}
 use Rattle.theory.proofs.AcceptedExactly.{question-accepted-exactly}
 use Rattle.record.specs.Record.{record_of, record_at}
-use Rattle.term_words.specs.Records.{plain_record, long_record, record_then, records_past, records_from, record_bytes, Whole, span_of, count_of, from, term_at}
+use Rattle.term_words.specs.Records.{length_of, plain_record, long_record, record_then, records_past, records_from, record_bytes, Whole, span_of, count_of, from, term_at}
 use Rattle.term_words.proofs.Laws.{span_none, count_none}
 
 -- ONE RECORD, without a body and with one
 records-plain : (arities : List ℕ) (k : ℕ) (l : List ℕ) → body_length k ≡ 0 → records_from arities (k ∷ l) ≡ plain_record k ∷ records_from arities l
 unfolding records_past record_at
-records-plain arities k l e = ap (λ (n : ℕ). let r = record_of (with_body k n l) in record_then arities r (records_past arities (r.len - 1) l)) e
+records-plain arities k l e = ap (λ (n : ℕ). let r = record_of (with_body k n l) in record_then arities r (records_past arities (length_of r - 1) l)) e
 
 records-long : (arities : List ℕ) (k b : ℕ) (l : List ℕ) → body_length k ≡ 1 → records_from arities (k ∷ b ∷ l) ≡ long_record arities k b ∷ records_from arities l
 unfolding records_past record_at
-records-long arities k b l e = ap (λ (n : ℕ). let r = record_of (with_body k n (b ∷ l)) in record_then arities r (records_past arities (r.len - 1) (b ∷ l))) e
+records-long arities k b l e = ap (λ (n : ℕ). let r = record_of (with_body k n (b ∷ l)) in record_then arities r (records_past arities (length_of r - 1) (b ∷ l))) e
 
 module _ (D : Declared) (arities : List ℕ) (h : Agrees D arities) where
   record-read : (k : TermRecord) (rest : List ℕ) → TokOk D k → records_from arities (bytes_tok k ++ rest) ≡ k ∷ records_from arities rest
@@ -106,10 +106,6 @@ first-firsts : (ts : Terms) (a n : ℕ) → first_terms a (first_terms (a + n) t
 first-firsts ts zero n = refl
 first-firsts tnil (suc a) n = ap (first_terms (suc a)) (first-nil (suc a + n))
 first-firsts (tcons t ts) (suc a) n = ap (λ (m : ℕ). first_terms (suc a) (first_terms m (tcons t ts))) (suc-add a n) ∙ ap (tcons t) (first-firsts ts a n)
-
-other-nil : (n : ℕ) → later_terms n tnil ≡ tnil
-other-nil zero = refl
-other-nil (suc n) = refl
 
 other-firsts : (ts : Terms) (a n : ℕ) → later_terms a (first_terms (a + n) ts) ≡ first_terms n (later_terms a ts)
 other-firsts ts zero n = ap (λ (m : ℕ). first_terms m ts) (zero-add n)

@@ -1,5 +1,5 @@
 -- The exceptions of handles, which stand behind the guarded parts: each is kept for the number of terms that are owed when its guarded part is passed.
-use Rattle.std.specs.Prelude.{ℕ, ◌≤◌, ◌≡◌, List, [], ◌∷◌, eqb, get_or, set}
+use Rattle.std.specs.Prelude.{ℕ, ◌≤◌, ◌≡◌, List, eqb, get_or, set, Option, None}
 use Rattle.theory.specs.Syntax.{pick}
 use Rattle.theory.specs.Bytes.{ceiling, in_question}
 
@@ -7,14 +7,10 @@ use Rattle.theory.specs.Bytes.{ceiling, in_question}
 abbrev pub most_owed : ℕ
 most_owed = ceiling in_question
 
--- what is kept, as words: none where it is 0
-abbrev pub late_words : ℕ → List ℕ
-late_words x = pick (eqb x 0) [] (x ∷ [])
-
 -- what is kept once a root with the word w is read where `owed` terms were owed: with handle its exception x
-abbrev pub kept : List ℕ → ℕ → ℕ → ℕ → List ℕ
+abbrev pub kept : List (Option ℕ) → ℕ → ℕ → Option ℕ → List (Option ℕ)
 kept late owed w x = pick (eqb w 12) (set late owed x) late
 
 -- nothing is kept for n or more terms
-pub record Clear (late : List ℕ) (n : ℕ) : Type 0 where
-  pub none : (j : ℕ) → n ≤ j → get_or late j 0 ≡ 0
+pub record Clear (late : List (Option ℕ)) (n : ℕ) : Type 0 where
+  pub none : (j : ℕ) → n ≤ j → get_or late j None ≡ None

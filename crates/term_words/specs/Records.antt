@@ -1,5 +1,5 @@
 -- The records that the bytes of terms are, one after the other, and the terms that stand there. `arities` has the arity of each function.
-use Rattle.std.specs.Prelude.{◌≡◌, ℕ, zero, suc, ◌+◌, ◌-◌, ◌≤◌, ◌||◌, List, [], ◌∷◌, eqb, length, get_or, drop}
+use Rattle.std.specs.Prelude.{◌≡◌, ℕ, zero, suc, ◌+◌, ◌-◌, ◌≤◌, ◌||◌, List, [], ◌∷◌, eqb, length, get_or, drop, Option, Some, None}
 use Rattle.theory.specs.Syntax.{zero_b, true_b, false_b, Term, Terms, pick}
 use Rattle.theory.specs.Bytes.{TermRecord, constant_record, succ_record, if_record, variable_record, raise_record, handle_record, call_record, record_parts, record_words, terms_from, nth_term}
 use Rattle.record.specs.declared.Record.{Record}
@@ -13,18 +13,25 @@ abbrev pub long_record : List ℕ → ℕ → ℕ → TermRecord
 long_record arities k b =
     pick (eqb k 0x14) (variable_record b) (pick (eqb k 0x15) (raise_record b) (pick (eqb k 0x16) (handle_record b) (pick (eqb k 0x18) (call_record b (get_or arities b 0)) (call_record (16 + b) (get_or arities (16 + b) 0)))))
 
--- the record of a term that a record of bytes is; those of one byte have no body
-abbrev pub term_record_of : List ℕ → Record → TermRecord
-term_record_of arities r = pick (eqb r.len 1) (plain_record r.kind) (long_record arities r.kind r.body)
+-- the record of a term that a record of bytes is; those of one byte have no body. Where there is none, it may be any
+abbrev pub term_record_of : List ℕ → Option Record → TermRecord
+term_record_of arities None = long_record arities 0 0
+term_record_of arities (Some r) = pick (eqb r.len 1) (plain_record r.kind) (long_record arities r.kind r.body)
 
--- a record before others; one that is cut short is none, and no record of a term has three bytes
-abbrev pub record_then : List ℕ → Record → List TermRecord → List TermRecord
-record_then arities r ks = pick (eqb r.len 1 || eqb r.len 2) (term_record_of arities r ∷ ks) []
+-- a record before others, if there is one; no record of a term has three bytes
+abbrev pub record_then : List ℕ → Option Record → List TermRecord → List TermRecord
+record_then arities None ks = []
+record_then arities (Some r) ks = pick (eqb r.len 1 || eqb r.len 2) (term_record_of arities (Some r) ∷ ks) []
+
+-- how many bytes it takes
+abbrev pub length_of : Option Record → ℕ
+length_of None = 0
+length_of (Some r) = r.len
 
 -- the records of the bytes behind the first n
 unfoldable pub records_past : List ℕ → ℕ → List ℕ → List TermRecord
 records_past arities zero [] = []
-records_past arities zero (k ∷ bs) = record_then arities (record_at (k ∷ bs) 0) (records_past arities ((record_at (k ∷ bs) 0).len - 1) bs)
+records_past arities zero (k ∷ bs) = record_then arities (record_at (k ∷ bs) 0) (records_past arities (length_of (record_at (k ∷ bs) 0) - 1) bs)
 records_past arities (suc n) [] = []
 records_past arities (suc n) (k ∷ bs) = records_past arities n bs
 

@@ -1,33 +1,23 @@
--- How many words the rules are. To count is to write into nothing: `Wrote ws at [] []`.
+-- How many words the rules are.
 use mathlib.Core.Path.{◌≡◌, refl, sym, ap, subst}
 use mathlib.Core.Bool.{Bool, true, false, ◌&&◌}
-use mathlib.Core.List.{List, [], ◌∷◌}
 use Prim.Native.Nat.{ℕ, zero, suc, ◌+◌, ◌*◌, ◌≤◌, ◌<◌}
 use native.Mathlib.Omega.{arith}
 use lib.Dec.{eqb, leb, T, eqb→eq, leb→le}
 use lib.ListN.{length, get_or, length-append}
-use Rattle.theory.specs.Buffers.{put}
 use Rattle.theory.specs.Tree.{node}
 use Rattle.theory.specs.Words.{words, stored_rule, stored_rules}
 use Rattle.theory.specs.Translation.{aux, tree, trees, exn_rules}
 use Rattle.theory.specs.Bytes.{first_terms}
 use Rattle.theory.proofs.Tests.{and_left, and_right, eq-of-eqb, ne-of-eqb}
 use Rattle.theory.proofs.Readability.{length-words}
-use Rattle.generated.specs.Wrote.{Wrote}
 use Rattle.generated.specs.CallRules.{call_rules}
 use Rattle.term_words.specs.Records.{count_of, from, terms_at, term_at}
+use Rattle.translator.specs.declared.Source.{Source}
 use Rattle.translator.specs.Opened.{Opened, right_at, rule_at}
 use Rattle.translator.specs.Listed.{rules_in, rules_words}
 use Rattle.translator.specs.List.{rules_for}
 use Rattle.translator.proofs.Laws.{fun-words, left-size, right-size}
-
-put-empty : (at : ℕ) (ws : List ℕ) → [] ≡ put at ws []
-put-empty zero [] = refl
-put-empty zero (w ∷ ws) = refl
-put-empty (suc at) ws = refl
-
-pub wrote-empty : (ws : List ℕ) (at : ℕ) → Wrote ws at [] [] (at + length ws)
-wrote-empty ws at = record { place = refl; words = put-empty at ws }
 
 -- the rules of up to 16 exceptions, counted one number after the other by a computed test
 abbrev all_below : (ℕ → Bool) → ℕ → Bool
@@ -53,14 +43,6 @@ exn-count n h =
     (eqb→eq (17 * n + 10 * n * n) (length (stored_rules (exn_rules n))) (and_left a b t), leb→le (10 * n * n) 2560 (and_right a b t))
 
 -- a function's entry and arguments
-pub product_le : (n : ℕ) → n ≤ 4 → n * (2 * n + 7) ≤ 60
-product_le zero h = omega arith
-product_le (suc zero) h = omega arith
-product_le (suc (suc zero)) h = omega arith
-product_le (suc (suc (suc zero))) h = omega arith
-product_le (suc (suc (suc (suc zero)))) h = omega arith
-product_le (suc (suc (suc (suc (suc n))))) h = absurd (omega arith)
-
 call-count : (k n : ℕ) → n ≤ 4 → length (stored_rules (call_rules k n)) ≡ 2 * n + 4 + n * (2 * n + 7)
 call-count k zero h = refl
 call-count k (suc zero) h = refl
@@ -69,16 +51,16 @@ call-count k (suc (suc (suc zero))) h = refl
 call-count k (suc (suc (suc (suc zero)))) h = refl
 call-count k (suc (suc (suc (suc (suc n))))) h = absurd (omega arith)
 
-pub fun-count : (arities bytes : List ℕ) (f n a : ℕ) → n ≡ get_or arities (16 + f) 0 → a ≡ get_or arities (16 + f) 0 → n ≤ 4
-    → length (stored_rules (rules_for arities bytes f)) ≡ 2 * n + 4 + n * (2 * n + 7) + length (rules_words f a (rules_in bytes))
-fun-count arities bytes f n a e w h =
-    let r = rules_words f a (rules_in bytes) in
-    omega (arith, ap length (fun-words arities bytes f (16 + f) n a refl e w), length-append (stored_rules (call_rules (16 + f) n)) r, call-count (16 + f) n h)
+pub fun-count : (x : Source) (f n : ℕ) → n ≡ get_or x.arities.now (16 + f) 0 → n ≤ 4
+    → length (stored_rules (rules_for x f)) ≡ 2 * n + 4 + n * (2 * n + 7) + length (rules_words f n (rules_in x))
+fun-count x f n e h =
+    let r = rules_words f n (rules_in x) in
+    omega (arith, ap length (fun-words x f n e), length-append (stored_rules (call_rules (16 + f) n)) r, call-count (16 + f) n h)
 
 -- a rule in the bytes
-pub rule-count : (arities bytes : List ℕ) (p k n : ℕ) → Opened arities bytes p n
-    → length (stored_rule (rule_at arities bytes p k n)) ≡ 2 + (count_of (from arities bytes (p + 2)) n + 1) + count_of (from arities bytes (right_at arities bytes p n)) 1
-rule-count arities bytes p k n o =
-    let l = node (aux k (suc n)) (trees (first_terms n (terms_at arities bytes (p + 2)))) in
-    let r = tree (term_at arities bytes (right_at arities bytes p n)) in
-    omega (arith, length-append (words l) (words r), length-words l, length-words r, left-size arities bytes p n o, right-size arities bytes p n o)
+pub rule-count : (x : Source) (p k n : ℕ) → Opened x p n
+    → length (stored_rule (rule_at x p k n)) ≡ 2 + (count_of (from x.arities.now x.program.now (p + 2)) n + 1) + count_of (from x.arities.now x.program.now (right_at x p n)) 1
+rule-count x p k n o =
+    let l = node (aux k (suc n)) (trees (first_terms n (terms_at x.arities.now x.program.now (p + 2)))) in
+    let r = tree (term_at x.arities.now x.program.now (right_at x p n)) in
+    omega (arith, length-append (words l) (words r), length-words l, length-words r, left-size x p n o, right-size x p n o)

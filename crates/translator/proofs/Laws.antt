@@ -2,27 +2,35 @@
 use mathlib.Core.Path.{◌≡◌, refl, sym, ap, ap₂, ◌∙◌, subst}
 use mathlib.Core.Bool.{Bool, true, false}
 use mathlib.Core.List.{List, [], ◌∷◌, ◌++◌, append_assoc, append-nil}
-use Prim.Native.Nat.{ℕ, suc, ◌+◌, ◌≤◌, ◌<◌}
+use Prim.Native.Nat.{ℕ, zero, suc, ◌+◌, ◌≤◌, ◌<◌}
 use native.Mathlib.Nat.{add-zero}
 use native.Mathlib.Omega.{arith}
 use lib.Dec.{eqb}
-use lib.ListN.{length, get_or, drop, drop_of_length-le}
-use Rattle.theory.proofs.Lists.{drop-next}
+use lib.ListN.{length, get_or, take, drop}
+use mathlib.Core.HLevel.{Unit-prop, ⊥_prop}
+use mathlib.Core.List.{is_set as List-set}
+use mathlib.Core.Logic.{∥∥₁_elim}
+use native.Mathlib.Nat.{ℕ_set}
+use native.Mathlib.Bridge.{le_prop}
+use denote.Struct.Props.{props}
+use Rattle.std.proofs.lemmas.List.{take_all, take-append-drop}
 use Rattle.theory.specs.Syntax.{Term, Terms, tnil, tcons, many, pick, Def}
 use Rattle.theory.specs.Tree.{Trees, node, size, sizes}
 use Rattle.theory.specs.Words.{words, all_words, stored_rule, stored_rules}
 use Rattle.theory.specs.Translation.{aux, tree, trees, pat_ts, own_rules, ◌⇒◌}
-use Rattle.theory.specs.Bytes.{TermRecord, first_terms, nth_term, terms_from, RuleAt, defs_of}
+use Rattle.theory.specs.Bytes.{TermRecord, record_parts, first_terms, nth_term, terms_from, RuleAt, defs_of}
 use Rattle.theory.proofs.Tests.{eq-of-eqb, eqb-true, eqb-false}
 use Rattle.theory.proofs.Readability.{list-append}
 use Rattle.term_words.specs.Records.{Whole, count_of, from, terms_at, term_at}
 use Rattle.term_words.proofs.Laws.{whole-many}
 use Rattle.term_words.proofs.Count.{count-words}
+use Rattle.generated.specs.declared.writing.Writer.{Writer}
 use Rattle.generated.specs.Wrote.{Room, Wrote}
 use Rattle.generated.specs.CallRules.{call_rules}
-use Rattle.generated.proofs.Writes.{wrote_none, wrote_as, wrote_then, room_as, room-first, room-then}
+use Rattle.generated.proofs.Writes.{room_as, room-first, room-then}
+use Rattle.translator.specs.declared.Source.{Source}
 use Rattle.translator.specs.Opened.{Opened, OpenedFor, right_at, rule_at, rule_if}
-use Rattle.translator.specs.Listed.{Here, Stand, arity_of, rules_in, rules_words}
+use Rattle.translator.specs.Listed.{Here, Stand, arity_of, rules_in, rules_words, Listed}
 use Rattle.translator.specs.List.{rules_for}
 
 one_size : (ts : Terms) → 1 ≤ many ts → sizes (trees (first_terms 1 ts)) ≡ size (tree (nth_term ts 0))
@@ -33,29 +41,29 @@ pub term-count : (ks : List TermRecord) → Whole ks 1 → size (tree (nth_term 
 term-count ks h = sym (one_size (terms_from ks) (whole-many ks 1 h)) ∙ count-words ks 1 h
 
 -- the words of a rule: the two counts and the auxiliary, the left arguments, the right side
-abbrev pub head_words : List ℕ → List ℕ → ℕ → ℕ → ℕ → List ℕ
-head_words arities bytes p k n = (count_of (from arities bytes (p + 2)) n + 1) ∷ count_of (from arities bytes (right_at arities bytes p n)) 1 ∷ aux k (n + 1) ∷ []
+abbrev pub head_words : Source → ℕ → ℕ → ℕ → List ℕ
+head_words x p k n = (count_of (from x.arities.now x.program.now (p + 2)) n + 1) ∷ count_of (from x.arities.now x.program.now (right_at x p n)) 1 ∷ aux k (n + 1) ∷ []
 
-abbrev pub left_words : List ℕ → List ℕ → ℕ → ℕ → List ℕ
-left_words arities bytes p n = all_words (trees (first_terms n (terms_at arities bytes (p + 2))))
+abbrev pub left_words : Source → ℕ → ℕ → List ℕ
+left_words x p n = all_words (trees (first_terms n (terms_at x.arities.now x.program.now (p + 2))))
 
-abbrev pub right_words : List ℕ → List ℕ → ℕ → ℕ → List ℕ
-right_words arities bytes p n = words (tree (term_at arities bytes (right_at arities bytes p n)))
+abbrev pub right_words : Source → ℕ → ℕ → List ℕ
+right_words x p n = words (tree (term_at x.arities.now x.program.now (right_at x p n)))
 
-pub left-size : (arities bytes : List ℕ) (p n : ℕ) → Opened arities bytes p n → sizes (trees (first_terms n (terms_at arities bytes (p + 2)))) ≡ count_of (from arities bytes (p + 2)) n
-left-size arities bytes p n o = count-words (from arities bytes (p + 2)) n o.left
+pub left-size : (x : Source) (p n : ℕ) → Opened x p n → sizes (trees (first_terms n (terms_at x.arities.now x.program.now (p + 2)))) ≡ count_of (from x.arities.now x.program.now (p + 2)) n
+left-size x p n o = count-words (from x.arities.now x.program.now (p + 2)) n o.left
 
-pub right-size : (arities bytes : List ℕ) (p n : ℕ) → Opened arities bytes p n → size (tree (term_at arities bytes (right_at arities bytes p n))) ≡ count_of (from arities bytes (right_at arities bytes p n)) 1
-right-size arities bytes p n o = term-count (from arities bytes (right_at arities bytes p n)) o.right
+pub right-size : (x : Source) (p n : ℕ) → Opened x p n → size (tree (term_at x.arities.now x.program.now (right_at x p n))) ≡ count_of (from x.arities.now x.program.now (right_at x p n)) 1
+right-size x p n o = term-count (from x.arities.now x.program.now (right_at x p n)) o.right
 
-pub rule-words : (arities bytes : List ℕ) (p k n : ℕ) → Opened arities bytes p n → stored_rule (rule_at arities bytes p k n) ≡ head_words arities bytes p k n ++ (left_words arities bytes p n ++ right_words arities bytes p n)
-rule-words arities bytes p k n o =
-    let l = left_words arities bytes p n in
-    let r = right_words arities bytes p n in
-    let s : suc (sizes (trees (first_terms n (terms_at arities bytes (p + 2))))) ≡ count_of (from arities bytes (p + 2)) n + 1 = omega (arith, left-size arities bytes p n o) in
+pub rule-words : (x : Source) (p k n : ℕ) → Opened x p n → stored_rule (rule_at x p k n) ≡ head_words x p k n ++ (left_words x p n ++ right_words x p n)
+rule-words x p k n o =
+    let l = left_words x p n in
+    let r = right_words x p n in
+    let s : suc (sizes (trees (first_terms n (terms_at x.arities.now x.program.now (p + 2))))) ≡ count_of (from x.arities.now x.program.now (p + 2)) n + 1 = omega (arith, left-size x p n o) in
     let e : suc n ≡ n + 1 = omega arith in
-    ap₂ (λ (a b : ℕ). a ∷ b ∷ aux k (suc n) ∷ (l ++ r)) s (right-size arities bytes p n o)
-    ∙ ap (λ (j : ℕ). (count_of (from arities bytes (p + 2)) n + 1) ∷ count_of (from arities bytes (right_at arities bytes p n)) 1 ∷ aux k j ∷ (l ++ r)) e
+    ap₂ (λ (a b : ℕ). a ∷ b ∷ aux k (suc n) ∷ (l ++ r)) s (right-size x p n o)
+    ∙ ap (λ (j : ℕ). (count_of (from x.arities.now x.program.now (p + 2)) n + 1) ∷ count_of (from x.arities.now x.program.now (right_at x p n)) 1 ∷ aux k j ∷ (l ++ r)) e
 
 -- the rules of a function among some rules and then others
 defs-append : (f : ℕ) (a b : List RuleAt) → defs_of f (a ++ b) ≡ defs_of f a ++ defs_of f b
@@ -78,106 +86,113 @@ rules-append f n a b =
     ∙ list-append (own_rules (16 + f) n (defs_of f a)) (own_rules (16 + f) n (defs_of f b))
 
 -- a rule that stands at p: whether it is one of function f, and its words
-module _ (arities bytes : List ℕ) (p f n : ℕ) (is : n ≡ get_or arities (16 + f) 0) (r : RuleAt) (h : Here arities bytes p r) where
-  same-arity : get_or bytes (p + 1) 0 ≡ f → arity_of arities r ≡ n
-  same-arity e = ap (λ (i : ℕ). get_or arities (16 + i) 0) (sym h.owner ∙ e) ∙ sym is
+module _ (x : Source) (p f n : ℕ) (is : n ≡ get_or x.arities.now (16 + f) 0) (r : RuleAt) (h : Here x p r) where
+  same-arity : get_or x.program.now (p + 1) 0 ≡ f → arity_of x r ≡ n
+  same-arity e = ap (λ (i : ℕ). get_or x.arities.now (16 + i) 0) (sym h.owner ∙ e) ∙ sym is
 
-  pub opened-for : OpenedFor arities bytes p f n
-  opened-for = record { inside = h.opened.inside; opened = λ e. subst (Opened arities bytes p) (same-arity e) h.opened }
+  opened-here : OpenedFor x p f n
+  opened-here = record { inside = h.opened.inside; opened = λ e. subst (Opened x p) (same-arity e) h.opened }
 
-  pub rule-here : rules_words f n (r ∷ []) ≡ rule_if arities bytes p f n
+  pub rule-here : rules_words f n (r ∷ []) ≡ rule_if x p f n
   rule-here =
-      ap (λ (i : ℕ). stored_rules (own_rules (16 + f) n (pick (eqb i f) (r.sides ∷ []) []))) (sym h.owner) ∙ go (eqb (get_or bytes (p + 1) 0) f) refl
+      ap (λ (i : ℕ). stored_rules (own_rules (16 + f) n (pick (eqb i f) (r.sides ∷ []) []))) (sym h.owner) ∙ go (eqb (get_or x.program.now (p + 1) 0) f) refl
     where
-      go : (t : Bool) → eqb (get_or bytes (p + 1) 0) f ≡ t
-          → stored_rules (own_rules (16 + f) n (pick t (r.sides ∷ []) [])) ≡ pick t (stored_rule (rule_at arities bytes p (16 + f) n)) []
+      go : (t : Bool) → eqb (get_or x.program.now (p + 1) 0) f ≡ t
+          → stored_rules (own_rules (16 + f) n (pick t (r.sides ∷ []) [])) ≡ pick t (stored_rule (rule_at x p (16 + f) n)) []
       go true e =
-          let same = same-arity (eq-of-eqb (get_or bytes (p + 1) 0) f e) in
+          let same = same-arity (eq-of-eqb (get_or x.program.now (p + 1) 0) f e) in
           append-nil (stored_rule (node (aux (16 + f) (suc n)) (pat_ts r.sides.left) ⇒ tree r.sides.right))
           ∙ ap₂ (λ (ts : Trees) (t : Term). stored_rule (node (aux (16 + f) (suc n)) ts ⇒ tree t))
-          (h.left ∙ ap (λ (i : ℕ). trees (first_terms i (terms_at arities bytes (p + 2)))) same)
-          (h.right ∙ ap (λ (i : ℕ). term_at arities bytes (right_at arities bytes p i)) same)
+          (h.left ∙ ap (λ (i : ℕ). trees (first_terms i (terms_at x.arities.now x.program.now (p + 2)))) same)
+          (h.right ∙ ap (λ (i : ℕ). term_at x.arities.now x.program.now (right_at x p i)) same)
       go false e = refl
 
--- A scan over the rules by their openings: the first i are passed, and those of function f among them are written.
-module _ (f n : ℕ) (arities bytes openings : List ℕ) (all : List RuleAt) (at : ℕ) (d : List ℕ) where
-  pub record Scanned (d' : List ℕ) (i next : ℕ) : Type 0 where
-    pub done : List RuleAt
-    pub rest : List RuleAt
-    pub split : all ≡ done ++ rest
-    pub stand : Stand arities bytes (drop i openings) rest
-    pub wrote : Wrote (rules_words f n done) at d d' next
+-- what is said of a rule's records has one proof at most
+Whole-prop : (ks : List TermRecord) (n : ℕ) → IsProp (Whole ks n)
+Whole-prop [] zero = Unit-prop
+Whole-prop [] (suc n) = ⊥_prop
+Whole-prop (k ∷ ks) zero = Unit-prop
+Whole-prop (k ∷ ks) (suc n) = Whole-prop ks (record_parts k + n)
 
-  -- a turn: the next rule stands at opening i
-  pub record Turn (d' : List ℕ) (i next : ℕ) : Type 0 where
-    pub done : List RuleAt
-    pub rule : RuleAt
-    pub rest : List RuleAt
-    pub split : all ≡ done ++ (rule ∷ rest)
-    pub here : Here arities bytes (get_or openings i 0) rule
-    pub stand : Stand arities bytes (drop (i + 1) openings) rest
-    pub wrote : Wrote (rules_words f n done) at d d' next
+words_set : IsSet (List ℕ)
+words_set = List-set ℕ_set
 
-  pub scanned-start : Stand arities bytes openings all → Scanned d 0 at
-  scanned-start h = record { done = []; rest = all; split = refl; stand = h; wrote = wrote_none at d }
+-- A SCAN OVER THE RULES by their openings. The rule at turn i stands at opening i, behind those that are passed.
+record Turn (x : Source) (ps : List ℕ) (rs : List RuleAt) (i : ℕ) : Type 0 where
+  rule : RuleAt
+  next : take (suc i) rs ≡ take i rs ++ (rule ∷ [])
+  here : Here x (get_or ps i 0) rule
 
-  pub turn-of : (d' : List ℕ) (i next : ℕ) → Scanned d' i next → i < length openings → Turn d' i next
-  turn-of d' i next s l = go s.rest s.split (subst (λ (ps : List ℕ). Stand arities bytes ps s.rest) (drop-next openings i l) s.stand)
-    where
-      go : (rs : List RuleAt) → all ≡ s.done ++ rs → Stand arities bytes (get_or openings i 0 ∷ drop (i + 1) openings) rs → Turn d' i next
-      go [] q h = absurd h
-      go (r ∷ rs) q h = record { done = s.done; rule = r; rest = rs; split = q; here = h.0; stand = h.1; wrote = s.wrote }
+turn-of : (x : Source) (ps : List ℕ) (rs : List RuleAt) → Stand x ps rs → (i : ℕ) → i < length ps → Turn x ps rs i
+turn-of x [] rs h i l = absurd (omega arith)
+turn-of x (p ∷ ps) [] h i l = absurd h
+turn-of x (p ∷ ps) (r ∷ rs) h zero l = record { rule = r; next = refl; here = h.0 }
+turn-of x (p ∷ ps) (r ∷ rs) h (suc i) l =
+    let t = turn-of x ps rs h.1 i (omega arith) in
+    record { rule = t.rule; next = ap (r ∷◌) t.next; here = t.here }
 
-  pub scanned-end : (d' : List ℕ) (i next : ℕ) → Scanned d' i next → length openings ≤ i → Wrote (rules_words f n all) at d d' next
-  scanned-end d' i next s l = go s.rest s.split (subst (λ (ps : List ℕ). Stand arities bytes ps s.rest) (drop_of_length-le openings l) s.stand)
-    where
-      go : (rs : List RuleAt) → all ≡ s.done ++ rs → Stand arities bytes [] rs → Wrote (rules_words f n all) at d d' next
-      go [] q h = wrote_as (ap (rules_words f n) (sym (q ∙ append-nil s.done))) s.wrote
-      go (r ∷ rs) q h = absurd h
+as-many : (x : Source) (ps : List ℕ) (rs : List RuleAt) → Stand x ps rs → length rs ≡ length ps
+as-many x [] [] h = refl
+as-many x [] (r ∷ rs) h = absurd h
+as-many x (p ∷ ps) [] h = absurd h
+as-many x (p ∷ ps) (r ∷ rs) h = ap suc (as-many x ps rs h.1)
 
-  module _ (is : n ≡ get_or arities (16 + f) 0) (d' : List ℕ) (i next : ℕ) (t : Turn d' i next) where
+-- what a scan asks of a listed program; each of these has one proof at most
+module _ (x : Source) (h : ∥ Listed x ∥₁) where
+  pub few_openings : length x.openings.now ≤ 64
+  few_openings = ∥∥₁_elim h le_prop (λ y. y.few)
+
+  length-rules : length (rules_in x) ≡ length x.openings.now
+  length-rules = ∥∥₁_elim h (ℕ_set _ _) (λ y. as-many x x.openings.now (rules_in x) y.stand)
+
+  pub passed-all : (i : ℕ) → length x.openings.now ≤ i → take i (rules_in x) ≡ rules_in x
+  passed-all i l = take_all i (rules_in x) (let e = length-rules in omega (arith, e, l))
+
+  module _ (f n i : ℕ) (is : n ≡ get_or x.arities.now (16 + f) 0) (l : i < length x.openings.now) where
     abbrev this : List ℕ
-    this = rule_if arities bytes (get_or openings i 0) f n
+    this = rule_if x (get_or x.openings.now i 0) f n
 
-    pub turn-opened : OpenedFor arities bytes (get_or openings i 0) f n
-    turn-opened = opened-for arities bytes (get_or openings i 0) f n is t.rule t.here
+    abbrev passed : ℕ → List ℕ
+    passed k = rules_words f n (take k (rules_in x))
 
-    these : rules_words f n (t.rule ∷ []) ≡ this
-    these = rule-here arities bytes (get_or openings i 0) f n is t.rule t.here
+    turn : Listed x → Turn x x.openings.now (rules_in x) i
+    turn y = turn-of x x.openings.now (rules_in x) y.stand i l
 
-    all-words : rules_words f n all ≡ rules_words f n t.done ++ (this ++ rules_words f n t.rest)
+    pub turn-opened : OpenedFor x (get_or x.openings.now i 0) f n
+    turn-opened = ∥∥₁_elim h (Prim.hlevel (Whole-prop, props)) (λ y. opened-here x (get_or x.openings.now i 0) f n is (turn y).rule (turn y).here)
+
+    pub words-next : passed (i + 1) ≡ passed i ++ this
+    words-next =
+        let e : i + 1 ≡ suc i = omega arith in
+        ap passed e
+        ∙ ∥∥₁_elim h (words_set _ _)
+        (λ y. let t = turn y in
+        ap (rules_words f n) t.next ∙ rules-append f n (take i (rules_in x)) (t.rule ∷ []) ∙ ap (passed i ++◌) (rule-here x (get_or x.openings.now i 0) f n is t.rule t.here))
+
+    all-words : rules_words f n (rules_in x) ≡ passed i ++ (this ++ rules_words f n (drop (i + 1) (rules_in x)))
     all-words =
-        ap (rules_words f n) t.split
-        ∙ rules-append f n t.done (t.rule ∷ t.rest)
-        ∙ ap (rules_words f n t.done ++◌) (rules-append f n (t.rule ∷ []) t.rest ∙ ap (◌++ rules_words f n t.rest) these)
+        let rest = drop (i + 1) (rules_in x) in
+        ap (rules_words f n) (sym (take-append-drop (i + 1) (rules_in x)))
+        ∙ rules-append f n (take (i + 1) (rules_in x)) rest
+        ∙ ap (◌++ rules_words f n rest) words-next
+        ∙ append_assoc (passed i) this (rules_words f n rest)
 
-    pub turn-room : Room (rules_words f n all) at d → Room this next d'
-    turn-room h =
-        room-first this (rules_words f n t.rest) next d'
-        (room-then (rules_words f n t.done) (this ++ rules_words f n t.rest) at next d d' t.wrote (room_as at d all-words h))
-
-    pub turn-next : (d'' : List ℕ) (next'' : ℕ) → Wrote this next d' d'' next'' → Scanned d'' (i + 1) next''
-    turn-next d'' next'' w =
-        record {
-          done = t.done ++ (t.rule ∷ []);
-          rest = t.rest;
-          split = t.split ∙ sym (append_assoc t.done (t.rule ∷ []) t.rest);
-          stand = t.stand;
-          wrote = wrote_as (sym (rules-append f n t.done (t.rule ∷ []) ∙ ap (rules_words f n t.done ++◌) these)) (wrote_then t.wrote w);
-        }
+    pub turn-room : {u v : Writer} → Wrote (passed i) u v → Room (rules_words f n (rules_in x)) u → Room this v
+    turn-room {u} {v} w r =
+        let rest = rules_words f n (drop (i + 1) (rules_in x)) in
+        room-first this rest v (room-then (passed i) (this ++ rest) w (room_as u all-words r))
 
 -- a rule of the function itself, and one of another
-pub if-same : (arities bytes : List ℕ) (p f n : ℕ) → get_or bytes (p + 1) 0 ≡ f → rule_if arities bytes p f n ≡ stored_rule (rule_at arities bytes p (16 + f) n)
-if-same arities bytes p f n e = ap (λ (b : Bool). pick b (stored_rule (rule_at arities bytes p (16 + f) n)) []) (eqb-true (get_or bytes (p + 1) 0) f e)
+pub if-same : (x : Source) (p f n : ℕ) → get_or x.program.now (p + 1) 0 ≡ f → rule_if x p f n ≡ stored_rule (rule_at x p (16 + f) n)
+if-same x p f n e = ap (λ (b : Bool). pick b (stored_rule (rule_at x p (16 + f) n)) []) (eqb-true (get_or x.program.now (p + 1) 0) f e)
 
-pub if_other : (arities bytes : List ℕ) (p f n : ℕ) → (get_or bytes (p + 1) 0 ≡ f → ⊥) → rule_if arities bytes p f n ≡ []
-if_other arities bytes p f n e = ap (λ (b : Bool). pick b (stored_rule (rule_at arities bytes p (16 + f) n)) []) (eqb-false (get_or bytes (p + 1) 0) f e)
+pub if_other : (x : Source) (p f n : ℕ) → (get_or x.program.now (p + 1) 0 ≡ f → ⊥) → rule_if x p f n ≡ []
+if_other x p f n e = ap (λ (b : Bool). pick b (stored_rule (rule_at x p (16 + f) n)) []) (eqb-false (get_or x.program.now (p + 1) 0) f e)
 
 -- the rules of a function: its entry and its arguments, then its own
-pub fun-words : (arities bytes : List ℕ) (f k n a : ℕ) → k ≡ 16 + f → n ≡ get_or arities (16 + f) 0 → a ≡ get_or arities (16 + f) 0
-    → stored_rules (rules_for arities bytes f) ≡ stored_rules (call_rules k n) ++ rules_words f a (rules_in bytes)
-fun-words arities bytes f k n a e q w =
-    let m = get_or arities (16 + f) 0 in
-    list-append (call_rules (16 + f) m) (own_rules (16 + f) m (defs_of f (rules_in bytes)))
-    ∙ ap₂ (λ (i j : ℕ). stored_rules (call_rules i j) ++ rules_words f m (rules_in bytes)) (sym e) (sym q)
-    ∙ ap (λ (i : ℕ). stored_rules (call_rules k n) ++ rules_words f i (rules_in bytes)) (sym w)
+pub fun-words : (x : Source) (f n : ℕ) → n ≡ get_or x.arities.now (16 + f) 0
+    → stored_rules (rules_for x f) ≡ stored_rules (call_rules (16 + f) n) ++ rules_words f n (rules_in x)
+fun-words x f n e =
+    let m = get_or x.arities.now (16 + f) 0 in
+    list-append (call_rules (16 + f) m) (own_rules (16 + f) m (defs_of f (rules_in x)))
+    ∙ ap (λ (i : ℕ). stored_rules (call_rules (16 + f) i) ++ rules_words f i (rules_in x)) (sym e)

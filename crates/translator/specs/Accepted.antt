@@ -4,15 +4,16 @@ use Rattle.theory.specs.Syntax.{Term}
 use Rattle.theory.specs.Words.{words, stored_rules}
 use Rattle.theory.specs.Translation.{tree, own_list}
 use Rattle.theory.specs.Bytes.{good, Declared, Book, opened_at, read_program, program_of, read_question, Agrees}
+use Rattle.translator.specs.declared.Source.{Source}
 
 -- the program is accepted; the arities by function number, the openings and the two numbers are those that are read
-pub record Accepted (arities program openings : List ℕ) (exceptions functions : ℕ) : Type 0 where
+pub record Accepted (s : Source) : Type 0 where
   pub book : Book
-  pub read : read_program program ≡ good book
-  pub agrees : Agrees book.decls arities
-  pub openings_read : openings ≡ opened_at book.rules_at
-  pub exceptions_read : exceptions ≡ book.decls.exceptions
-  pub functions_read : functions ≡ length book.decls.arities
+  pub read : read_program s.program.now ≡ good book
+  pub agrees : Agrees book.decls s.arities.now
+  pub openings_read : s.openings.now ≡ opened_at book.rules_at
+  pub exceptions_read : s.exceptions ≡ book.decls.exceptions
+  pub functions_read : s.functions ≡ length book.decls.arities
 
 -- what is said of the words of an accepted program's own list, whatever program that is
 abbrev pub OfOwnList : List ℕ → (List ℕ → Type 0) → Type 0

@@ -4,42 +4,45 @@ use Rattle.theory.specs.Words.{stored_rules}
 use Rattle.theory.specs.Translation.{trees, pat_ts, own_rules}
 use Rattle.theory.specs.Bytes.{Result, refused, good, Book, RuleAt, first_terms, defs_of, read_program}
 use Rattle.term_words.specs.Records.{terms_at, term_at}
+use Rattle.translator.specs.declared.Source.{Source}
 use Rattle.translator.specs.Opened.{Opened, right_at}
 
-abbrev pub arity_of : List ℕ → RuleAt → ℕ
-arity_of arities r = get_or arities (16 + r.owner) 0
+abbrev pub arity_of : Source → RuleAt → ℕ
+arity_of s r = get_or s.arities.now (16 + r.owner) 0
 
 -- the rule r stands at p
-pub record Here (arities program : List ℕ) (p : ℕ) (r : RuleAt) : Type 0 where
-  pub owner : get_or program (p + 1) 0 ≡ r.owner
-  pub opened : Opened arities program p (arity_of arities r)
-  pub left : pat_ts r.sides.left ≡ trees (first_terms (arity_of arities r) (terms_at arities program (p + 2)))
-  pub right : r.sides.right ≡ term_at arities program (right_at arities program p (arity_of arities r))
+pub record Here (s : Source) (p : ℕ) (r : RuleAt) : Type 0 where
+  pub owner : get_or s.program.now (p + 1) 0 ≡ r.owner
+  pub opened : Opened s p (arity_of s r)
+  pub left : pat_ts r.sides.left ≡ trees (first_terms (arity_of s r) (terms_at s.arities.now s.program.now (p + 2)))
+  pub right : r.sides.right ≡ term_at s.arities.now s.program.now (right_at s p (arity_of s r))
 
 -- each rule stands at its opening
-abbrev pub Stand : List ℕ → List ℕ → List ℕ → List RuleAt → Type 0
-Stand arities program [] [] = Unit {0}
-Stand arities program [] (r ∷ rs) = ⊥
-Stand arities program (p ∷ ps) [] = ⊥
-Stand arities program (p ∷ ps) (r ∷ rs) = Here arities program p r × Stand arities program ps rs
+abbrev pub Stand : Source → List ℕ → List RuleAt → Type 0
+Stand s [] [] = Unit {0}
+Stand s [] (r ∷ rs) = ⊥
+Stand s (p ∷ ps) [] = ⊥
+Stand s (p ∷ ps) (r ∷ rs) = Here s p r × Stand s ps rs
 
 -- the rules that are read from a program
 abbrev pub rules_of : Result Book → List RuleAt
 rules_of (refused r) = []
-rules_of (good s) = s.rules_at
+rules_of (good b) = b.rules_at
 
-unfoldable pub rules_in : List ℕ → List RuleAt
-rules_in program = rules_of (read_program program)
+unfoldable pub rules_in : Source → List RuleAt
+rules_in s = rules_of (read_program s.program.now)
 
 -- the words of the rules of function f among rs, where it has n arguments
 abbrev pub rules_words : ℕ → ℕ → List RuleAt → List ℕ
 rules_words f n rs = stored_rules (own_rules (16 + f) n (defs_of f rs))
 
--- the rules of a program stand at these openings
-pub record Listed (arities program openings : List ℕ) : Type 0 where
-  pub stand : Stand arities program openings (rules_in program)
-  pub few : length openings ≤ 64
+-- the rules of a program stand at its openings
+pub record Listed (s : Source) : Type 0 where
+  pub stand : Stand s s.openings.now (rules_in s)
+  pub few : length s.openings.now ≤ 64
 
--- the functions below m have at most four arguments
-abbrev pub Small : List ℕ → ℕ → Type 0
-Small arities m = (f : ℕ) → f < m → get_or arities (16 + f) 0 ≤ 4
+-- there are few exceptions and functions, and the functions have at most four arguments
+pub record Small (s : Source) : Type 0 where
+  pub exceptions : s.exceptions ≤ 16
+  pub functions : s.functions ≤ 32
+  pub arities : (f : ℕ) → f < s.functions → get_or s.arities.now (16 + f) 0 ≤ 4

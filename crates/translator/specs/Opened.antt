@@ -7,29 +7,30 @@ use Rattle.theory.specs.Translation.{aux, tree, trees, ◌⇒◌}
 use Rattle.theory.specs.Bytes.{first_terms}
 use Rattle.term_words.specs.Records.{Whole, span_of, count_of, from, terms_at, term_at}
 use Rattle.term_words.specs.Late.{most_owed}
+use Rattle.translator.specs.declared.Source.{Source}
 
 -- where the right side begins, if the function has n arguments
-abbrev pub right_at : List ℕ → List ℕ → ℕ → ℕ → ℕ
-right_at arities program p n = p + 2 + span_of (from arities program (p + 2)) n
+abbrev pub right_at : Source → ℕ → ℕ → ℕ
+right_at s p n = p + 2 + span_of (from s.arities.now s.program.now (p + 2)) n
 
 -- the rewrite rule of function k that stands there: the last auxiliary at the root
-abbrev pub rule_at : List ℕ → List ℕ → ℕ → ℕ → ℕ → Rule
-rule_at arities program p k n =
-    node (aux k (suc n)) (trees (first_terms n (terms_at arities program (p + 2)))) ⇒ tree (term_at arities program (right_at arities program p n))
+abbrev pub rule_at : Source → ℕ → ℕ → ℕ → Rule
+rule_at s p k n =
+    node (aux k (suc n)) (trees (first_terms n (terms_at s.arities.now s.program.now (p + 2)))) ⇒ tree (term_at s.arities.now s.program.now (right_at s p n))
 
 -- both sides are whole, and not large
-pub record Opened (arities program : List ℕ) (p n : ℕ) : Type 0 where
-  pub inside : p + 2 ≤ length program
-  pub left : Whole (from arities program (p + 2)) n
-  pub right : Whole (from arities program (right_at arities program p n)) 1
-  pub small_left : count_of (from arities program (p + 2)) n ≤ most_owed
-  pub small_right : count_of (from arities program (right_at arities program p n)) 1 ≤ most_owed
+pub record Opened (s : Source) (p n : ℕ) : Type 0 where
+  pub inside : p + 2 ≤ length s.program.now
+  pub left : Whole (from s.arities.now s.program.now (p + 2)) n
+  pub right : Whole (from s.arities.now s.program.now (right_at s p n)) 1
+  pub small_left : count_of (from s.arities.now s.program.now (p + 2)) n ≤ most_owed
+  pub small_right : count_of (from s.arities.now s.program.now (right_at s p n)) 1 ≤ most_owed
 
 -- the same of the rule at p, if it is one of function f
-pub record OpenedFor (arities program : List ℕ) (p f n : ℕ) : Type 0 where
-  pub inside : p + 2 ≤ length program
-  pub opened : get_or program (p + 1) 0 ≡ f → Opened arities program p n
+pub record OpenedFor (s : Source) (p f n : ℕ) : Type 0 where
+  pub inside : p + 2 ≤ length s.program.now
+  pub opened : get_or s.program.now (p + 1) 0 ≡ f → Opened s p n
 
 -- the rule's words where it is one of function f, and none where it is not
-abbrev pub rule_if : List ℕ → List ℕ → ℕ → ℕ → ℕ → List ℕ
-rule_if arities program p f n = pick (eqb (get_or program (p + 1) 0) f) (stored_rule (rule_at arities program p (16 + f) n)) []
+abbrev pub rule_if : Source → ℕ → ℕ → ℕ → List ℕ
+rule_if s p f n = pick (eqb (get_or s.program.now (p + 1) 0) f) (stored_rule (rule_at s p (16 + f) n)) []

@@ -2,64 +2,52 @@
 #![tactic(auto)]
 
 mod lengths;
+mod program;
 mod rules;
 
-ghost use Rattle.std.specs.Prelude.{◌≡◌, ◌≤◌, ◌<◌, length};
+ghost use Rattle.std.specs.Prelude.{◌≡◌, ◌≤◌, length};
 ghost use Rattle.theory.specs.Buffers.{over};
 ghost use Rattle.translator.specs.Accepted.{Accepted, OfOwnList, Asked, OfQuestion};
 ghost use Rattle.translator.specs.Answered.{answered, filled};
 
+use generated::writing::Writer;
 use lengths::list_length;
-use numbers::{byte_of_size, word_of_size};
+use program::Ready;
 use rules::put_list;
+use term_words::terms::{size_of, term_words};
 
-// The answer: so many words are written; or the slice is shorter, and nothing is.
+// A program's bytes, with what the checker hands over once it has accepted them: the arities by function number, the openings of the
+// rules, and how many exceptions and functions are declared.
 #[derive(Clone, Copy)]
-pub enum Own {
-    Count(usize),
-    Short,
+pub struct Source<'a> {
+    pub arities: &'a [u8],
+    pub program: &'a [u8],
+    pub openings: &'a [usize],
+    pub exceptions: usize,
+    pub functions: usize,
 }
 
 // How many words an accepted program's own list is.
-pub fn own_length(
-    arities: &[u8],
-    program: &[u8],
-    openings: &[usize],
-    exceptions: usize,
-    functions: usize,
-) -> usize
-    requires { Accepted arities.now program.now openings.now exceptions functions }
-    ensures { OfOwnList program.now (λ ws. result ≡ length ws) }
+pub fn own_length(source: &Source) -> usize
+    requires { Accepted source.now }
+    ensures { OfOwnList source.now.program.now (λ ws. result ≡ length ws) }
 {
-    list_length(
-        arities,
-        program,
-        openings,
-        word_of_size(exceptions),
-        byte_of_size(functions),
-    )
+    list_length(&Ready::of(source))
 }
 
-// That list, written where it fits.
-pub fn own_list(
-    arities: &[u8],
-    program: &[u8],
-    openings: &[usize],
-    exceptions: usize,
-    functions: usize,
-    dst: &mut [u16],
-) -> Own
-    requires { Accepted arities.now program.now openings.now exceptions functions }
-    ensures of_own_list { OfOwnList program.now (λ ws. result ≡ answered ws dst.old) }
-    ensures of_own_list_2 { OfOwnList program.now (λ ws. dst.new ≡ filled ws dst.old) }
+// That list, written where it fits: how many words it is. None where the slice is shorter, and then nothing is written.
+pub fn own_list(source: &Source, dst: &mut [u16]) -> Option<usize>
+    requires { Accepted source.now }
+    ensures of_own_list { OfOwnList source.now.program.now (λ ws. result ≡ answered ws dst.old) }
+    ensures of_own_list_2 { OfOwnList source.now.program.now (λ ws. dst.new ≡ filled ws dst.old) }
 {
-    let n = word_of_size(exceptions);
-    let m = byte_of_size(functions);
-    let size = list_length(arities, program, openings, n, m);
-    if dst.len() < size {
-        return Own::Short;
+    let ready = Ready::of(source);
+    if dst.len() < list_length(&ready) {
+        return None;
     }
-    Own::Count(put_list(arities, program, openings, n, m, dst))
+    let mut out = Writer::new(dst);
+    put_list(&ready, &mut out);
+    Some(out.written())
 }
 
 // How many words an accepted question is.
@@ -67,8 +55,7 @@ pub fn question_length(arities: &[u8], question: &[u8]) -> usize
     requires { Asked arities.now question.now }
     ensures { OfQuestion arities.now question.now (λ ws. result ≡ length ws) }
 {
-    let ends = term_words::terms::size_of(arities, question, 0, 1);
-    ends.to
+    size_of(arities, question, 0, 1).words
 }
 
 // Those words, into a slice that is long enough; how many they are.
@@ -78,6 +65,7 @@ pub fn question_words(arities: &[u8], question: &[u8], dst: &mut [u16]) -> usize
     ensures of_question_2 { OfQuestion arities.now question.now (λ ws. result ≡ length ws) }
     ensures of_question_3 { OfQuestion arities.now question.now (λ ws. dst.new ≡ over ws dst.old) }
 {
-    let ends = term_words::terms::term_words(arities, question, 0, dst, 0);
-    ends.to
+    let mut out = Writer::new(dst);
+    term_words(arities, question, 0, &mut out);
+    out.written()
 }

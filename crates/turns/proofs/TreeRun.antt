@@ -7,6 +7,7 @@ use Prim.Native.Nat.{ℕ, zero, suc, ◌+◌}
 use native.Mathlib.Nat.{add-zero}
 use native.Mathlib.Omega.{arith}
 use lib.Dec.{leb}
+use Rattle.std.specs.Prelude.{is_some}
 use Rattle.theory.specs.Syntax.{pick, choose}
 use Rattle.theory.specs.Endings.{Said, is, out_of_steps, too_big, Answer, says}
 use Rattle.theory.specs.Tree.{Tree, var, Rule, first_fit, step, size}
@@ -20,7 +21,8 @@ use Rattle.step.specs.Next.{next_w}
 use Rattle.turns.specs.Run.{Last, stop, go, run}
 use Rattle.turns.specs.declared.run.Ending.{Ending}
 use Rattle.turns.specs.declared.run.Ending.TheVariants.{Done, Out, Big}
-use Rattle.rules.specs.Finding.{fitting_of, is_found, rule_of}
+use Rattle.rules.specs.Finding.{fitting_of, rule_of}
+use Rattle.rules.specs.declared.index.Span.{Span}
 use Rattle.rules.proofs.Found.{Picked}
 use Rattle.step.proofs.TreeStep.{next-is}
 
@@ -37,8 +39,8 @@ zero-parts : (ks : List ℕ) → arity_of ks 1 ≡ 0
 unfolding arity_of
 zero-parts ks = refl
 
-module _ (ks st own si oi : List ℕ) (rs : List Rule) (proper : ProperRules rs) (hs : ShapedRules (arity_of ks) rs)
-    (found : (t : Tree) → Shaped (arity_of ks) t → (rest : List ℕ) → let f = fitting_of ks st own si oi (words t ++ rest) in Picked ks t rs (rule_of st own f) (is_found f))
+module _ (ks st own : List ℕ) (si oi : List Span) (rs : List Rule) (proper : ProperRules rs) (hs : ShapedRules (arity_of ks) rs)
+    (found : (t : Tree) → Shaped (arity_of ks) t → (rest : List ℕ) → let f = fitting_of ks st own si oi (words t ++ rest) in Picked ks t rs (rule_of st own f) (is_some f))
     (vars : (x : ℕ) → first_fit rs (var x) ≡ none) (room : ℕ) where
   abbrev root : Tree → Option Tree
   root = first_fit rs

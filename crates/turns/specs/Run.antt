@@ -1,51 +1,41 @@
 -- Runs of a step, any function `next` from a term to the next one, if there is one, within a room; and what two buffers that take
 -- turns hold.
-use Rattle.std.specs.Prelude.{ℕ, zero, suc, ◌+◌, ◌-◌, ◌≤◌, ◌≡◌, Bool, true, false, List, [], length, take, drop, leb}
+use Rattle.std.specs.Prelude.{ℕ, zero, suc, ◌+◌, ◌-◌, ◌≤◌, ◌≡◌, List, [], length, take, drop, leb}
 use Rattle.std.proofs.Math.Option.{Option, none, some}
 use Rattle.theory.specs.Syntax.{pick}
+use Rattle.std.specs.declared.ops.ControlFlow.{ControlFlow}
+use Rattle.std.specs.declared.ops.ControlFlow.TheVariants.{Continue, Break}
 use Rattle.step.specs.declared.Next.{Next}
 use Rattle.step.specs.declared.Next.TheVariants.{Made, Over, Nothing}
+use Rattle.turns.specs.declared.round.Stop.{Stop}
+use Rattle.turns.specs.declared.round.Outcome.{Outcome}
 use Rattle.turns.specs.declared.run.Ending.{Ending}
 use Rattle.turns.specs.declared.run.Ending.TheVariants.{Done, Out, Big}
-use Rattle.turns.specs.declared.run.Move.{Move}
-use Rattle.turns.specs.declared.run.Move.TheVariants.{Stop, Go}
 use Rattle.turns.specs.declared.run.Ran.{Ran}
-use Rattle.turns.specs.declared.run.Driven.{Driven}
-use Rattle.turns.specs.declared.run.Outcome.{Outcome}
+use Rattle.turns.specs.declared.buffers.Buffers.{Buffers}
+use Rattle.turns.specs.Buffers.{first_of, second_of, term_of}
 use Rattle.step.specs.Next.{next_in, placed_next, OnNext}
 use Rattle.in_place.specs.InPlace.{Leads}
 
--- the buffer that holds the term: the first, or the second where they have changed over
-abbrev pub source : Bool → List ℕ → List ℕ → List ℕ
-source false f s = f
-source true f s = s
-
--- a turn leaves the buffer that holds the term, and makes the next term in the other
-pub record Turned (next : List ℕ → Option (List ℕ)) (flip : Bool) (room size : ℕ) (f s f' s' : List ℕ) : Type 0 where
-  pub kept : source flip f' s' ≡ source flip f s
-  pub other : source flip s' f' ≡ placed_next room (next (take size (source flip f s))) (source flip s f)
-
 -- what follows a turn's answer after so many steps
-abbrev pub is_nothing : Next → Bool
-is_nothing (Made n) = false
-is_nothing Over = false
-is_nothing Nothing = true
+abbrev pub stop_at : Ending → ℕ → ControlFlow Stop ℕ
+stop_at ending steps = Break (record { ending = ending; steps = steps })
 
-unfoldable pub decided : Next → ℕ → ℕ → Move
-decided Nothing steps allowance = Stop Done steps
-decided Over steps allowance = pick (leb allowance steps) (Stop Out steps) (Stop Big (steps + 1))
-decided (Made n) steps allowance = pick (leb allowance steps) (Stop Out steps) (Go n)
+unfoldable pub decided : Next → ℕ → ℕ → ControlFlow Stop ℕ
+decided Nothing steps allowance = stop_at Done steps
+decided Over steps allowance = pick (leb allowance steps) (stop_at Out steps) (stop_at Big (steps + 1))
+decided (Made n) steps allowance = pick (leb allowance steps) (stop_at Out steps) (Continue n)
 
--- a round: steps in place lead to the term that the one buffer holds then, and the turn makes the next one from it in the other; the path is
--- noted up to the place of the turn
-pub record Rounded (ks : List ℕ) (next : List ℕ → Option (List ℕ)) (flip : Bool) (room size steps allowance : ℕ) (f s f' s' path : List ℕ) (r : Outcome) : Type 0 where
+-- a round: steps in place lead to the term that its buffer t holds then, and the turn makes the next one from it in the other buffer o; the
+-- path is noted up to the place of the turn
+pub record Rounded (ks : List ℕ) (next : List ℕ → Option (List ℕ)) (room size steps allowance : ℕ) (t o t' o' path : List ℕ) (r : Outcome) : Type 0 where
   pub more : steps ≤ r.steps
   pub within : r.steps ≤ allowance
-  pub leads : Leads next room (r.steps - steps) (take size (source flip f s)) (take size (source flip f' s'))
-  pub rest : drop size (source flip f' s') ≡ drop size (source flip f s)
-  pub other : source flip s' f' ≡ placed_next room (next (take size (source flip f' s'))) (source flip s f)
-  pub move : r.next ≡ decided (next_in room (next (take size (source flip f' s')))) r.steps allowance
-  pub on : OnNext ks (next (take size (source flip f' s'))) path r.number
+  pub leads : Leads next room (r.steps - steps) (take size t) (take size t')
+  pub rest : drop size t' ≡ drop size t
+  pub other : o' ≡ placed_next room (next (take size t')) o
+  pub move : r.next ≡ decided (next_in room (next (take size t'))) r.steps allowance
+  pub on : OnNext ks (next (take size t')) path r.number
 
 -- how a run ends, after how many steps, and its last term
 pub record Last : Type 0 where
@@ -76,15 +66,11 @@ run_from next room allowance t = pick (leb (length t) room) (run next room allow
 abbrev pub ran_of : Last → Ran
 ran_of l = record { ending = l.ending; steps = l.steps; len = length l.term }
 
-abbrev pub ended_with : Ending → ℕ → ℕ → Bool → Driven
-ended_with ending steps len flip = record { ending = ending; steps = steps; len = len; flip = flip }
-
 -- a run's turns, before the buffers are set in order
-pub record Drove (room : ℕ) (l : Last) (r : Driven) (f s f' s' : List ℕ) : Type 0 where
-  pub ending : r.ending ≡ l.ending
-  pub steps : r.steps ≡ l.steps
-  pub len : r.len ≡ length l.term
-  pub fits : r.len ≤ room
-  pub term : take r.len (source r.flip f' s') ≡ l.term
-  pub first_rest : drop room f' ≡ drop room f
-  pub second_rest : drop room s' ≡ drop room s
+pub record Drove (l : Last) (at : Stop) (b b' : Buffers) : Type 0 where
+  pub ending : at.ending ≡ l.ending
+  pub steps : at.steps ≡ l.steps
+  pub len : b'.size ≡ length l.term
+  pub term : term_of b' ≡ l.term
+  pub first_rest : drop b.room (first_of b') ≡ drop b.room (first_of b)
+  pub second_rest : drop b.room (second_of b') ≡ drop b.room (second_of b)

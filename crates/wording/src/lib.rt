@@ -1,118 +1,111 @@
-// What the two calls report, in words, put into a buffer that the caller lends.
+// What the two calls report, in words, put behind what a buffer holds.
 #![tactic(auto)]
 
-ghost use Rattle.std.specs.Prelude.{◌+◌, ◌≤◌, length};
-ghost use Rattle.wording.specs.Text.{Wrote, number_of};
+ghost use Rattle.std.specs.Prelude.{◌≡◌, ◌+◌, ◌≤◌, ◌++◌, length};
+ghost use Rattle.arrayvec.specs.ArrayVec.{array_vec_len};
+ghost use Rattle.wording.specs.Text.{number_of};
 ghost use Rattle.wording.specs.Words.{name_of, amount_of, base_of, ending_of, about_of, refusal_of};
 
+use arrayvec::ArrayVec;
 use bridge::report::Report;
 
-// Puts `text` into `out` from the place `at` on; the place behind it.
-pub fn put_text(out: &mut [u8], at: usize, text: &[u8]) -> usize
-    requires { at + length text.now ≤ length out.old }
-    ensures { Wrote text.now out.old out.new at result }
+// Appends a text.
+pub fn put_text<const CAP: usize>(out: &mut ArrayVec<u8, CAP>, text: &[u8])
+    requires { array_vec_len out.old + length text.now ≤ CAP }
+    ensures { out.new.items ≡ out.old.items ++ text.now }
 {
-    lines::copy_at(out, at, text);
-    at + text.len()
+    let _ = out.try_extend_from_slice(text);
 }
 
-// A number in decimal digits.
-pub fn put_number(out: &mut [u8], at: usize, n: u32) -> usize
-    requires { at + 10 ≤ length out.old }
-    ensures wrote { Wrote (number_of n) out.old out.new at result }
-    ensures upper_bound { result ≤ at + 10 }
+// Appends a number in decimal digits.
+pub fn put_number<const CAP: usize>(out: &mut ArrayVec<u8, CAP>, n: u32)
+    requires { array_vec_len out.old + 10 ≤ CAP }
+    ensures appended { out.new.items ≡ out.old.items ++ number_of n }
+    ensures upper_bound { array_vec_len out.new ≤ array_vec_len out.old + 10 }
 {
     let mut digits = [0u8; 20];
-    let k = io::decimal(n as u64, &mut digits);
-    put_text(out, at, &digits[..k])
+    let k = io::decimal(u64::from(n), &mut digits);
+    put_text(out, &digits[..k]);
 }
 
 // The name of an ending, and a space.
-fn put_name(out: &mut [u8], at: usize, ending: u32) -> usize
-    requires { at + 10 ≤ length out.old }
-    ensures wrote { Wrote (name_of ending) out.old out.new at result }
-    ensures upper_bound { result ≤ at + 10 }
+#[tactic(auto, unfolding(crate::specs::Words::name_of))]
+fn name(ending: u32) -> &'static [u8]
+    ensures value { result.now ≡ name_of ending }
+    ensures upper_bound { length result.now ≤ 10 }
 {
-    if ending == 1 {
-        return put_text(out, at, b"value ");
+    match ending {
+        1 => b"value ",
+        2 => b"exception ",
+        3 => b"stuck ",
+        4 => b"out ",
+        5 => b"deep ",
+        _ => b"big ",
     }
-    if ending == 2 {
-        return put_text(out, at, b"exception ");
-    }
-    if ending == 3 {
-        return put_text(out, at, b"stuck ");
-    }
-    if ending == 4 {
-        return put_text(out, at, b"out ");
-    }
-    if ending == 5 {
-        return put_text(out, at, b"deep ");
-    }
-    put_text(out, at, b"big ")
 }
 
-// The amount, which only a value, an exception and a stuck ending have.
-fn put_amount(out: &mut [u8], at: usize, ending: u32, amount: u32) -> usize
-    requires { at + 10 ≤ length out.old }
-    ensures wrote { Wrote (amount_of ending amount) out.old out.new at result }
-    ensures upper_bound { result ≤ at + 10 }
+// Appends the amount, which only a value, an exception and a stuck ending have.
+#[tactic(auto, unfolding(crate::specs::Words::amount_of))]
+fn put_amount<const CAP: usize>(out: &mut ArrayVec<u8, CAP>, ending: u32, amount: u32)
+    requires { array_vec_len out.old + 10 ≤ CAP }
+    ensures appended { out.new.items ≡ out.old.items ++ amount_of ending amount }
+    ensures upper_bound { array_vec_len out.new ≤ array_vec_len out.old + 10 }
 {
     if ending <= 3 {
-        return put_number(out, at, amount);
+        put_number(out, amount);
+    } else {
+        put_text(out, b"-");
     }
-    put_text(out, at, b"-")
 }
 
 // The base, which only a value has, between spaces.
-fn put_base(out: &mut [u8], at: usize, base: u32) -> usize
-    requires { at + 7 ≤ length out.old }
-    ensures wrote { Wrote (base_of base) out.old out.new at result }
-    ensures upper_bound { result ≤ at + 7 }
+#[tactic(auto, unfolding(crate::specs::Words::base_of))]
+fn base(base: u32) -> &'static [u8]
+    ensures value { result.now ≡ base_of base }
+    ensures upper_bound { length result.now ≤ 7 }
 {
-    if base == 1 {
-        return put_text(out, at, b" zero ");
+    match base {
+        1 => b" zero ",
+        2 => b" true ",
+        3 => b" false ",
+        _ => b" - ",
     }
-    if base == 2 {
-        return put_text(out, at, b" true ");
-    }
-    if base == 3 {
-        return put_text(out, at, b" false ");
-    }
-    put_text(out, at, b" - ")
 }
 
-// An ending: its name, its amount, its base and its steps.
-pub fn put_ending(out: &mut [u8], at: usize, report: Report) -> usize
-    requires { at + 37 ≤ length out.old }
-    ensures wrote { Wrote (ending_of report) out.old out.new at result }
-    ensures upper_bound { result ≤ at + 37 }
+// Appends an ending: its name, its amount, its base and its steps.
+#[tactic(auto, unfolding(crate::specs::Words::ending_of))]
+pub fn put_ending<const CAP: usize>(out: &mut ArrayVec<u8, CAP>, report: Report)
+    requires { array_vec_len out.old + 37 ≤ CAP }
+    ensures appended { out.new.items ≡ out.old.items ++ ending_of report }
+    ensures upper_bound { array_vec_len out.new ≤ array_vec_len out.old + 37 }
 {
-    let named = put_name(out, at, report.ending);
-    let counted = put_amount(out, named, report.ending, report.amount);
-    let based = put_base(out, counted, report.base);
-    put_number(out, based, report.steps)
+    put_text(out, name(report.ending));
+    put_amount(out, report.ending, report.amount);
+    put_text(out, base(report.base));
+    put_number(out, report.steps);
 }
 
-// What a refusal is about, between spaces.
-fn put_about(out: &mut [u8], at: usize, about: u32) -> usize
-    requires { at + 17 ≤ length out.old }
-    ensures wrote { Wrote (about_of about) out.old out.new at result }
-    ensures upper_bound { result ≤ at + 17 }
+// What a refusal is about, and a space.
+#[tactic(auto, unfolding(crate::specs::Words::about_of))]
+fn about(about: u32) -> &'static [u8]
+    ensures value { result.now ≡ about_of about }
+    ensures upper_bound { length result.now ≤ 17 }
 {
-    if about == 2 {
-        return put_text(out, at, b"refused question ");
+    match about {
+        2 => b"refused question ",
+        _ => b"refused program ",
     }
-    put_text(out, at, b"refused program ")
 }
 
-// A refusal: what it is about, its number and its place.
-pub fn put_refusal(out: &mut [u8], at: usize, report: Report) -> usize
-    requires { at + 38 ≤ length out.old }
-    ensures wrote { Wrote (refusal_of report) out.old out.new at result }
-    ensures upper_bound { result ≤ at + 38 }
+// Appends a refusal: what it is about, its number and its place.
+#[tactic(auto, unfolding(crate::specs::Words::refusal_of))]
+pub fn put_refusal<const CAP: usize>(out: &mut ArrayVec<u8, CAP>, report: Report)
+    requires { array_vec_len out.old + 38 ≤ CAP }
+    ensures appended { out.new.items ≡ out.old.items ++ refusal_of report }
+    ensures upper_bound { array_vec_len out.new ≤ array_vec_len out.old + 38 }
 {
-    let spoken = put_about(out, at, report.about);
-    let numbered = put_number(out, spoken, report.number);
-    let spaced = put_text(out, numbered, b" ");
-    put_number(out, spaced, report.place)
+    put_text(out, about(report.about));
+    put_number(out, report.number);
+    put_text(out, b" ");
+    put_number(out, report.place);
 }

@@ -4,6 +4,5 @@ pub mod Trees
 pub mod Stands
 pub mod Contexts
 pub mod Parts
-pub mod Same
 pub mod Writes
 mod Examples

@@ -10,15 +10,15 @@ use borrow.Author.Tests.{lt-ltb}
 use lib.Dec.{leb}
 use lib.ListN.{length, take, drop, get_or-eq_default}
 use lib.Seq.{take-append_seam}
+use Rattle.std.specs.Prelude.{Some}
 use Rattle.theory.specs.Syntax.{pick}
 use Rattle.theory.specs.Tree.{Tree, Trees, var, node, [·], ◌▹◌, size, sizes, len}
 use Rattle.theory.specs.Words.{words, all_words, is_var, Shaped, Shapeds}
 use Rattle.theory.proofs.Tests.{le-of-leb}
 use Rattle.theory.proofs.Readability.{forest, is_var-le, words-forest, forest-words, length-words}
-use Rattle.words.specs.declared.terms.Reach.TheVariants.{End}
 use Rattle.words.specs.Terms.{arity_of, fixed, past, skip_at}
 use Rattle.words.specs.Stands.{Stands, TreeFrom}
-use Rattle.words.proofs.Skips.{short-end, past-none}
+use Rattle.words.proofs.Skips.{past-none}
 
 -- a variable has no parts
 pub var-parts : (ks : List ℕ) (x : ℕ) → x < 8 → arity_of ks (64 + x) ≡ 0
@@ -45,7 +45,7 @@ module _ (ks : List ℕ) where
         ∙ past_words t (all_words ts ++ rest) (len ts + n) p h.0 ∙ past-wordss ts rest n (p + size t) h.1 ∙ ap (past (arity_of ks) rest n) z
 
   -- SKIP IS COMPLETE: where the words of a tree stand, skipping gives their end
-  pub skip-tree : (ws : List ℕ) (p : ℕ) (t : Tree) (rest : List ℕ) → Shaped (arity_of ks) t → drop p ws ≡ words t ++ rest → skip_at ks ws p ≡ End (p + size t)
+  pub skip-tree : (ws : List ℕ) (p : ℕ) (t : Tree) (rest : List ℕ) → Shaped (arity_of ks) t → drop p ws ≡ words t ++ rest → skip_at ks ws p ≡ Some (p + size t)
   unfolding skip_at
   skip-tree ws p t rest h e = ap (λ (l : List ℕ). past (arity_of ks) l 1 p) e ∙ past_words t rest 0 p h ∙ past-none _ _ _
 
@@ -119,10 +119,10 @@ module _ (ks : List ℕ) where
         end = omega (arith, r.end, c.large);
       }
 
-  past-read : (l : List ℕ) (n p q : ℕ) → past (arity_of ks) l n p ≡ End q → Read ks l n p q
+  past-read : (l : List ℕ) (n p q : ℕ) → past (arity_of ks) l n p ≡ Some q → Read ks l n p q
   unfolding past
   past-read [] zero p q e = let h : p ≡ q = cc in record { trees = [·]; rest = []; number = refl; shaped = tt; flat = refl; end = omega arith }
-  past-read [] (suc n) p q e = absurd (short-end _ q refl e)
+  past-read [] (suc n) p q e = cc
   past-read (w ∷ ws) zero p q e = let h : p ≡ q = cc in record { trees = [·]; rest = w ∷ ws; number = refl; shaped = tt; flat = refl; end = omega arith }
   past-read (w ∷ ws) (suc n) p q e = read_more w ws n p q (is_var w) refl (past-read ws (arity_of ks w + n) (p + 1) q e)
 
@@ -141,7 +141,7 @@ module _ (ks : List ℕ) where
   one ws p q (t ▹ u ▹ ts) rest n h e z = absurd (omega arith)
 
   -- SKIP IS SOUND: where skipping gives an end, the words up to there are those of a tree in which each symbol has its parts
-  pub skip-is-tree : (ws : List ℕ) (p q : ℕ) → skip_at ks ws p ≡ End q → TreeFrom ks ws p q
+  pub skip-is-tree : (ws : List ℕ) (p q : ℕ) → skip_at ks ws p ≡ Some q → TreeFrom ks ws p q
   unfolding skip_at
   skip-is-tree ws p q e =
       let r : Read ks (drop p ws) 1 p q = past-read (drop p ws) 1 p q e in

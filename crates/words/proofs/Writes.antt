@@ -1,17 +1,15 @@
 -- The laws of `over` and `put`: what a slice holds after words are written into it.
 --     length_over, length-put   a buffer keeps its length
 --     over-append               to write s and then t after it is to write s ++ t
---     over-more                 a turn of a loop that copies word by word
 --     over-is, put-is           what is written, where it fits, in terms of take, drop and ++
 --     put-part                  what is written over a part that is lent is written into the whole
 use mathlib.Core.Path.{◌≡◌, refl, sym, ap, ◌∙◌}
-use mathlib.Core.List.{List, [], ◌∷◌, ◌++◌}
-use Prim.Native.Nat.{ℕ, zero, suc, ◌+◌, ◌-◌, ◌≤◌, ◌<◌}
-use native.Mathlib.Nat.{le_of_suc-le-suc, not-suc-le-zero, zero-add, suc-add, sub_self, suc-ne-zero, suc_inj}
-use native.Mathlib.Numerals.{add-one}
+use mathlib.Core.List.{List, [], ◌∷◌, ◌++◌, append-nil}
+use Prim.Native.Nat.{ℕ, zero, suc, ◌+◌, ◌-◌, ◌≤◌}
+use native.Mathlib.Nat.{le_of_suc-le-suc, not-suc-le-zero, zero-add, suc-add, suc-ne-zero, suc_inj}
 use native.Mathlib.Omega.{arith}
-use lib.ListN.{length, take, drop, get_or, set, replicate, take-append-drop, length-replicate, replicate-append-replicate}
-use lib.Seq.{take-suc, length-take-le}
+use lib.ListN.{length, take, drop, set, replicate, take-append-drop, length-drop, length-replicate, drop_of_length-le}
+use lib.Seq.{length-take-le}
 use borrow.Rule.Slice.PartMut.{put_mid}
 use Rattle.theory.specs.Buffers.{over, put}
 
@@ -48,31 +46,10 @@ put_one [] (suc i) a = refl
 put_one (x ∷ d) zero a = refl
 put_one (x ∷ d) (suc i) a = ap (λ (l : List ℕ). x ∷ l) (put_one d i a)
 
--- a store just past what is written writes one word more
-pub put-more : (n : ℕ) (s d : List ℕ) (i a : ℕ) → i ≡ n + length s → set (put n s d) i a ≡ put n (s ++ (a ∷ [])) d
-put-more n s d i a e = rw (e, put_one) (put-append n s (a ∷ []) d)
-
-pub over-more : (s d : List ℕ) (i : ℕ) → i < length s → set (over (take i s) d) i (get_or s i 0) ≡ over (take (i + 1) s) d
-over-more s d i h =
-    rw (add-one, take-suc s i 0)
-    (put-more 0 (take i s) d i (get_or s i 0) (sym (zero-add (length (take i s)) ∙ length-take-le i s (omega arith))))
-
 pub put-none : (n : ℕ) (d : List ℕ) → put n [] d ≡ d
 put-none zero d = refl
 put-none (suc n) [] = refl
 put-none (suc n) (x ∷ d) = ap (λ (l : List ℕ). x ∷ l) (put-none n d)
-
--- a turn of a loop that zeros word by word from n on, and its start
-pub zero_more : (x d : List ℕ) (n i : ℕ) → n ≤ i → x ≡ put n (replicate (i - n) 0) d → set x i 0 ≡ put n (replicate (i + 1 - n) 0) d
-zero_more x d n i h e =
-    let one : i - n + 1 ≡ i + 1 - n = omega arith in
-    ap (λ (l : List ℕ). set l i 0) e
-    ∙ put-more n (replicate (i - n) 0) d i 0 (rw length-replicate (omega arith))
-    ∙ ap (λ (l : List ℕ). put n l d) (replicate-append-replicate (i - n) 1 0)
-    ∙ ap (λ (k : ℕ). put n (replicate k 0) d) one
-
-pub zero-none : (n : ℕ) (d : List ℕ) → d ≡ put n (replicate (n - n) 0) d
-zero-none n d = sym (ap (λ (k : ℕ). put n (replicate k 0) d) (sub_self n) ∙ put-none n d)
 
 -- what is written, where it fits
 pub over-is : (s d : List ℕ) → length s ≤ length d → over s d ≡ s ++ drop (length s) d
@@ -129,3 +106,14 @@ over-over s [] d h = refl
 over-over [] (w ∷ t) d h = absurd (not-suc-le-zero h)
 over-over (v ∷ s) (w ∷ t) [] h = refl
 over-over (v ∷ s) (w ∷ t) (x ∷ d) h = ap (λ (l : List ℕ). v ∷ l) (over-over s t d (le_of_suc-le-suc h))
+
+-- zeros over a part that is lent, all of it
+pub zeros-lent : (a e : ℕ) (d y : List ℕ) → a ≤ e → e ≤ length d → y ≡ replicate (length (take (e - a) (drop a d))) 0 → put_mid a (e - a) d y ≡ put a (replicate (e - a) 0) d
+zeros-lent a e d y h k q =
+    let part : List ℕ = take (e - a) (drop a d) in
+    let zeros : List ℕ = replicate (e - a) 0 in
+    let n : length part ≡ e - a = length-take-le (e - a) (drop a d) (simp length-drop (omega arith)) in
+    let m : length zeros ≡ e - a = length-replicate (e - a) 0 in
+    let none : drop (length zeros) part ≡ [] = drop_of_length-le part (omega arith) in
+    put-lent a (e - a) zeros d y (omega arith)
+    (q ∙ ap (λ (i : ℕ). replicate i 0) n ∙ sym (append-nil zeros) ∙ ap (zeros ++◌) (sym none) ∙ sym (over-is zeros part (omega arith)))

@@ -1,5 +1,5 @@
+pub mod Base
 pub mod Terms
 pub mod Parts
-pub mod Same
 pub mod Stands
 pub mod Contexts

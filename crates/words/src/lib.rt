@@ -1,5 +1,6 @@
-// Terms as root-first words: where a term and its parts stand among words, and words compared, copied and put in place.
+// Terms as root-first words: the constants' words, where a term and its parts stand among words, and words copied and put in place.
 #![tactic(auto)]
 
+pub mod base;
 pub mod slices;
 pub mod terms;

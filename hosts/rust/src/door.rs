@@ -7,7 +7,7 @@ use std::thread;
 /// The words of a report.
 pub type Report = [u32; 7];
 
-/// The stack of a call. The deepest runs tried take 3.4 MB, more than a thread
+/// The stack of a call. The deepest runs tried take 2.4 MB, more than a thread
 /// is sure to have left, so each call has a thread of its own.
 const STACK: usize = 16 << 20;
 

@@ -1,16 +1,18 @@
 -- `checker::check_program` meets its contract.
-use mathlib.Core.Path.{◌∙◌}
+use mathlib.Core.Path.{ap, ◌∙◌}
+use Rattle.std.specs.Prelude.{Err}
+use Rattle.std.proofs.lemmas.Result.{err_from_is_err_and}
 use Rattle.checker.proofs.Answer.{program-long, program-refused, program-settled}
+use Rattle.checker.proofs.Callers.{program-same}
 use Rattle.checker.proofs.check_program.Goals as goal
 
 pub returns-then-program-gt8192 : goal.returns-then-program-gt8192
-returns-then-program-gt8192 c = c.refused_program.ensures ∙ program-long _ c.if-program-gt8192.true
+returns-then-program-gt8192 c = record { value = ap Err c.at.ensures ∙ program-long _ c.if-program-gt8192.true; numbered = program-same _ }
 
-pub returns-then-top-ne0 : goal.returns-then-top-ne0
-returns-then-top-ne0 c = c.refused_program-then-top-ne0.ensures ∙ program-refused _ _ c.if-program-gt8192.false c.parse-top.ensures.value c.if-top-ne0.true
-
-pub settle-requires : goal.settle-requires
-settle-requires c = c.parse-top.ensures.kept
+pub returns-in_err-top : goal.returns-in_err-top
+returns-in_err-top c =
+    let p = err_from_is_err_and c.from_residual.result c.from_residual.ensures.1 in
+    record { value = rw (p.1, p.2) (program-refused _ c.if-program-gt8192.false _ c.in_err-top.ensures.value); numbered = program-same _ }
 
 pub returns : goal.returns
-returns c = c.settle.ensures ∙ program-settled _ _ c.if-program-gt8192.false c.parse-top.ensures.value c.parse-top.ensures.kept c.if-top-ne0.false
+returns c = record { value = c.settle.ensures ∙ program-settled _ c.if-program-gt8192.false _ c.in_ok-top.ensures.value c.in_ok-top.ensures.kept; numbered = program-same _ }

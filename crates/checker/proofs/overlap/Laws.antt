@@ -1,15 +1,17 @@
 -- The laws of overlap on bytes, by place.
 use Prim.Native.Nat.{ℕ, zero, suc, ◌+◌, ◌-◌, ◌≤◌, ◌<◌}
 use mathlib.Core.Path.{◌≡◌, refl, sym, ap, ◌∙◌}
-use mathlib.Core.Bool.{Bool, true, false}
+use mathlib.Core.Bool.{Bool, true, false, ◌||◌}
+use mathlib.Core.Logic.{◌⊎◌, inl, inr}
+use Rattle.std.specs.List.{list_any}
 use mathlib.Core.List.{List, [], ◌∷◌, ◌++◌}
 use native.Mathlib.Numerals.{add-one}
 use native.Mathlib.Omega.{arith}
-use lib.ListN.{length, get_or, take, drop, drop_of_length-le, get_or-eq_default}
+use lib.ListN.{length, get_or, take, drop, drop_of_length-le}
 use lib.Seq.{take-suc}
-use borrow.Author.Tests.{eq-eqb, ne_eqb, le-leb, lt-leb}
+use borrow.Author.Tests.{eq-eqb, ne_eqb, lt-leb}
 use Rattle.theory.proofs.Lists.{drop-next}
-use Rattle.checker.specs.declared.overlap.Overlap.TheVariants.{At, Nowhere}
+use Rattle.std.specs.Prelude.{Some, None}
 use Rattle.checker.specs.Overlap.{pat_len, heads_meet, args_meet, clash_at, any_clash, first_clash}
 
 module _ (ws : List ℕ) (p : ℕ) where
@@ -29,41 +31,35 @@ module _ (ws : List ℕ) (p : ℕ) where
   unfolding pat_len
   pat-succ h e k = rw (drop-next ws p h, ne_eqb (get_or ws p 0) 0x14 e, eq-eqb (get_or ws p 0) 0x11 k) (omega arith)
 
-module _ (ws : List ℕ) (i j : ℕ) where
-  pub heads-out : length ws ≤ i → heads_meet (drop i ws) (drop j ws) ≡ true
+-- two patterns, byte by byte
+pub heads-out : (xs ys : List ℕ) → (xs ≡ []) ⊎ (ys ≡ []) → heads_meet xs ys ≡ true
+unfolding heads_meet
+heads-out xs ys (inl e) = rw e
+heads-out [] ys (inr e) = refl
+heads-out (x ∷ xs) ys (inr e) = rw e
+
+module _ (xs ys : List ℕ) (a b : ℕ) (as' bs : List ℕ) (first : xs ≡ a ∷ as') (second : ys ≡ b ∷ bs) where
+  pub heads-var : a ≡ 0x14 → heads_meet xs ys ≡ true
   unfolding heads_meet
-  heads-out h = rw (drop_of_length-le ws h)
+  heads-var e = rw (first, second, eq-eqb a 0x14 e)
 
-  module _ (h : i < length ws) where
-    pub heads-out2 : length ws ≤ j → heads_meet (drop i ws) (drop j ws) ≡ true
+  module _ (n1 : a ≡ 0x14 → ⊥) where
+    pub heads-var2 : b ≡ 0x14 → heads_meet xs ys ≡ true
     unfolding heads_meet
-    heads-out2 k = rw (drop-next ws i h, drop_of_length-le {A = ℕ} ws {i = j} k)
+    heads-var2 e = rw (first, second, ne_eqb a 0x14 n1, eq-eqb b 0x14 e)
 
-    module _ (k : j < length ws) where
-      heads-at : heads_meet (drop i ws) (drop j ws) ≡ heads_meet (get_or ws i 0 ∷ drop (i + 1) ws) (get_or ws j 0 ∷ drop (j + 1) ws)
-      heads-at = ap (λ l. heads_meet l (drop j ws)) (drop-next ws i h) ∙ ap (heads_meet (get_or ws i 0 ∷ drop (i + 1) ws)) (drop-next ws j k)
-
-      pub heads-var : get_or ws i 0 ≡ 0x14 → heads_meet (drop i ws) (drop j ws) ≡ true
+    module _ (n2 : b ≡ 0x14 → ⊥) where
+      pub heads-differ : (a ≡ b → ⊥) → heads_meet xs ys ≡ false
       unfolding heads_meet
-      heads-var e = heads-at ∙ rw (eq-eqb (get_or ws i 0) 0x14 e)
+      heads-differ e = rw (first, second, ne_eqb a 0x14 n1, ne_eqb b 0x14 n2, ne_eqb a b e)
 
-      module _ (n1 : get_or ws i 0 ≡ 0x14 → ⊥) where
-        pub heads-var2 : get_or ws j 0 ≡ 0x14 → heads_meet (drop i ws) (drop j ws) ≡ true
-        unfolding heads_meet
-        heads-var2 e = heads-at ∙ rw (ne_eqb (get_or ws i 0) 0x14 n1, eq-eqb (get_or ws j 0) 0x14 e)
+      pub heads-base : a ≡ b → (a ≡ 0x11 → ⊥) → heads_meet xs ys ≡ true
+      unfolding heads_meet
+      heads-base e c = rw (first, second, ne_eqb a 0x14 n1, ne_eqb b 0x14 n2, eq-eqb a b e, ne_eqb a 0x11 c)
 
-        module _ (n2 : get_or ws j 0 ≡ 0x14 → ⊥) where
-          pub heads-differ : (get_or ws i 0 ≡ get_or ws j 0 → ⊥) → heads_meet (drop i ws) (drop j ws) ≡ false
-          unfolding heads_meet
-          heads-differ e = heads-at ∙ rw (ne_eqb (get_or ws i 0) 0x14 n1, ne_eqb (get_or ws j 0) 0x14 n2, ne_eqb (get_or ws i 0) (get_or ws j 0) e)
-
-          pub heads-base : get_or ws i 0 ≡ get_or ws j 0 → (get_or ws i 0 ≡ 0x11 → ⊥) → heads_meet (drop i ws) (drop j ws) ≡ true
-          unfolding heads_meet
-          heads-base e b = heads-at ∙ rw (ne_eqb (get_or ws i 0) 0x14 n1, ne_eqb (get_or ws j 0) 0x14 n2, eq-eqb (get_or ws i 0) (get_or ws j 0) e, ne_eqb (get_or ws i 0) 0x11 b)
-
-          pub heads-succ : get_or ws i 0 ≡ get_or ws j 0 → get_or ws i 0 ≡ 0x11 → heads_meet (drop i ws) (drop j ws) ≡ heads_meet (drop (i + 1) ws) (drop (j + 1) ws)
-          unfolding heads_meet
-          heads-succ e b = heads-at ∙ rw (ne_eqb (get_or ws i 0) 0x14 n1, ne_eqb (get_or ws j 0) 0x14 n2, eq-eqb (get_or ws i 0) (get_or ws j 0) e, eq-eqb (get_or ws i 0) 0x11 b)
+      pub heads-succ : a ≡ b → a ≡ 0x11 → heads_meet xs ys ≡ heads_meet as' bs
+      unfolding heads_meet
+      heads-succ e c = rw (first, second, ne_eqb a 0x14 n1, ne_eqb b 0x14 n2, eq-eqb a b e, eq-eqb a 0x11 c)
 
 module _ (ws : List ℕ) where
   pub args_none : (i j : ℕ) → args_meet ws 0 i j ≡ true
@@ -83,14 +79,6 @@ module _ (ws : List ℕ) where
       rw (z, ← e, k, x, y)
 
   module _ (ns : List ℕ) (o q : ℕ) where
-    pub clash-out : length ws ≤ o → clash_at ws ns o q ≡ false
-    unfolding clash_at
-    clash-out h = rw (le-leb (length ws) o h)
-
-    pub clash-out2 : o < length ws → length ws ≤ q → clash_at ws ns o q ≡ false
-    unfolding clash_at
-    clash-out2 h k = rw (lt-leb (length ws) o h, le-leb (length ws) q k)
-
     pub clash-other : o < length ws → q < length ws → (get_or ws (o + 1) 0 ≡ get_or ws (q + 1) 0 → ⊥) → clash_at ws ns o q ≡ false
     unfolding clash_at
     clash-other h k e = rw (lt-leb (length ws) o h, lt-leb (length ws) q k, ne_eqb (get_or ws (o + 1) 0) (get_or ws (q + 1) 0) e)
@@ -99,42 +87,24 @@ module _ (ws : List ℕ) where
     unfolding clash_at
     clash-same h k e = rw (lt-leb (length ws) o h, lt-leb (length ws) q k, eq-eqb (get_or ws (o + 1) 0) (get_or ws (q + 1) 0) e)
 
-    pub clash-found : o < length ws → q < length ws → (f g n : ℕ) → f ≡ get_or ws (o + 1) 0 → g ≡ get_or ws (q + 1) 0 → f ≡ g → n ≡ get_or ns g 0 → args_meet ws n (o + 2) (q + 2) ≡ clash_at ws ns o q
-    clash-found h k f g n a b c d = rw (d, b) (sym (clash-same h k (sym a ∙ c ∙ b)))
-
-  module _ (ns : List ℕ) (os : List ℕ) (i q : ℕ) where
-    pub any_out : length os ≤ i → any_clash ws ns (drop i os) q ≡ false
-    unfolding any_clash
-    any_out h = rw (drop_of_length-le os h)
-
-    pub any-yes : i < length os → (b : Bool) → b ≡ clash_at ws ns (get_or os i 0) q → b ≡ true → any_clash ws ns (drop i os) q ≡ true
-    unfolding any_clash
-    any-yes h b e k = rw (drop-next os i h, ← e, k)
-
-    pub any-no : i < length os → (b : Bool) → b ≡ clash_at ws ns (get_or os i 0) q → b ≡ false → any_clash ws ns (drop i os) q ≡ any_clash ws ns (drop (i + 1) os) q
-    unfolding any_clash
-    any-no h b e k = rw (drop-next os i h, ← e, k)
+  -- `any` asks the same
+  pub any-as : (ns : List ℕ) (q : ℕ) (os : List ℕ) → list_any (λ o. clash_at ws ns o q) os ≡ any_clash ws ns os q
+  unfolding any_clash
+  any-as ns q [] = refl
+  any-as ns q (o ∷ os) = ap (λ (b : Bool). clash_at ws ns o q || b) (any-as ns q os)
 
   module _ (ns : List ℕ) (os : List ℕ) (j : ℕ) where
-    pub first_out : length os ≤ j → first_clash ws ns (take j os) (drop j os) ≡ Nowhere
+    pub first_out : length os ≤ j → first_clash ws ns (take j os) (drop j os) ≡ None
     unfolding first_clash
     first_out h = rw (drop_of_length-le os h)
 
-    lent : take (j - 0) (drop 0 os) ≡ take j os
-    lent =
-        let z : j - 0 ≡ j = omega arith in
-        rw z
-
-    pub first-yes : j < length os → (b : Bool) → b ≡ any_clash ws ns (take (j - 0) (drop 0 os)) (get_or os j 0) → b ≡ true → first_clash ws ns (take j os) (drop j os) ≡ At (get_or os j 0)
+    pub first-yes : j < length os → (b : Bool) → b ≡ any_clash ws ns (take j os) (get_or os j 0) → b ≡ true → first_clash ws ns (take j os) (drop j os) ≡ Some (get_or os j 0)
     unfolding first_clash
-    first-yes h b e k = rw (drop-next os j h, ← lent, ← e, k)
+    first-yes h b e k = rw (drop-next os j h, ← e, k)
 
-    pub first-no : j < length os → (b : Bool) → b ≡ any_clash ws ns (take (j - 0) (drop 0 os)) (get_or os j 0) → b ≡ false → first_clash ws ns (take j os) (drop j os) ≡ first_clash ws ns (take (j + 1) os) (drop (j + 1) os)
+    pub first-no : j < length os → (b : Bool) → b ≡ any_clash ws ns (take j os) (get_or os j 0) → b ≡ false → first_clash ws ns (take j os) (drop j os) ≡ first_clash ws ns (take (j + 1) os) (drop (j + 1) os)
     unfolding first_clash
     first-no h b e k =
-        let a : any_clash ws ns (take j os) (get_or os j 0) ≡ false = ap (λ l. any_clash ws ns l (get_or os j 0)) (sym lent) ∙ sym e ∙ k in
+        let a : any_clash ws ns (take j os) (get_or os j 0) ≡ false = sym e ∙ k in
         let s : take (j + 1) os ≡ take j os ++ (get_or os j 0 ∷ []) = rw add-one (take-suc os j 0 h) in
         ap (first_clash ws ns (take j os)) (drop-next os j h) ∙ rw (a, s)
-
-pub read_out : (ws : List ℕ) (p : ℕ) → length ws ≤ p → 0 ≡ get_or ws p 0
-read_out ws p h = sym (get_or-eq_default ws 0 h)

@@ -10,8 +10,7 @@ use borrow.Author.Tests.{eqb-true, eqb-false}
 use Rattle.theory.specs.Syntax.{choose}
 use Rattle.theory.specs.Overlap.{overlaps}
 use Rattle.theory.specs.Bytes.{Result, good, refuse, RuleAt, add_last, overlaps_earlier, refuse_overlaps}
-use Rattle.checker.specs.declared.overlap.Overlap.{Overlap}
-use Rattle.checker.specs.declared.overlap.Overlap.TheVariants.{At, Nowhere}
+use Rattle.std.specs.Prelude.{Option, Some, None}
 use Rattle.theory.specs.Bytes.{opened_at}
 use Rattle.checker.specs.Overlap.{clash_at, any_clash, first_clash}
 use Rattle.theory.specs.Encoding.{encode, Each}
@@ -20,9 +19,9 @@ use Rattle.checker.proofs.overlap.Laws.{clash-other, clash-same}
 use Rattle.checker.proofs.overlap.Encode.{args_are}
 use Rattle.checker.proofs.Rules.{Stands}
 
-abbrev pub as_result : Overlap → Result (Unit {0})
-as_result (At q) = refuse 10 q
-as_result Nowhere = good tt
+abbrev pub as_result : Option ℕ → Result (Unit {0})
+as_result (Some q) = refuse 10 q
+as_result None = good tt
 
 opened-snoc : (rs : List RuleAt) (r : RuleAt) → opened_at (add_last rs r) ≡ opened_at rs ++ (r.opened ∷ [])
 opened-snoc [] r = refl
@@ -52,6 +51,6 @@ module _ (ws ns : List ℕ) where
   overlap-is qs (r ∷ rs) h k = rw (any-is qs r h k.0, ← opened-snoc qs r) (by-clash (overlaps_earlier r qs) (overlap-is (add_last qs r) rs (each_snoc (Stands ws ns) qs r h k.0) k.1))
     where
       by-clash : (b : Bool) → as_result (first_clash ws ns (opened_at (add_last qs r)) (opened_at rs)) ≡ refuse_overlaps (add_last qs r) rs
-          → as_result (choose b (λ u. At r.opened) (λ u. first_clash ws ns (opened_at (add_last qs r)) (opened_at rs))) ≡ choose b (λ u. refuse 10 r.opened) (λ u. refuse_overlaps (add_last qs r) rs)
+          → as_result (choose b (λ u. Some r.opened) (λ u. first_clash ws ns (opened_at (add_last qs r)) (opened_at rs))) ≡ choose b (λ u. refuse 10 r.opened) (λ u. refuse_overlaps (add_last qs r) rs)
       by-clash true e = refl
       by-clash false e = e

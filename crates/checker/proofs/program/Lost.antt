@@ -1,13 +1,13 @@
 -- The laws of refusal 17: which functions have a rule, as booleans, and that the first that is false is the theory's lowest.
 use Prim.Native.Nat.{ℕ, zero, suc, ◌+◌, ◌≤◌, ◌<◌}
-use mathlib.Core.Path.{◌≡◌, refl, sym, ap, ap₂, ◌∙◌}
-use mathlib.Core.Bool.{Bool, true, false, ◌||◌}
+use mathlib.Core.Path.{◌≡◌, refl, sym, ap, ap₂, subst, ◌∙◌}
+use mathlib.Core.Bool.{Bool, true, false, not, cond, ◌||◌}
+use Rattle.std.specs.Prelude.{Option, Some, None, option_map}
+use Rattle.std.specs.List.{position, position_or_len}
 use mathlib.Core.List.{List, [], ◌∷◌}
-use native.Mathlib.Numerals.{add-one}
 use native.Mathlib.Omega.{arith}
 use lib.Dec.{eqb, ltb, leb-suc-suc}
-use lib.ListN.{length, get_or, take, drop, set, drop_of_length-le}
-use lib.Seq.{drop-cons}
+use lib.ListN.{length, take, set}
 use borrow.Author.Tests.{eq-eqb, ne_eqb, lt-ltb}
 use Rattle.theory.specs.Syntax.{choose}
 use Rattle.theory.specs.Bytes.{Result, good, refuse, Declared, RuleAt, add_last, has_rule, declared_at, refuse_lost}
@@ -55,55 +55,67 @@ marks-take (suc n) (suc m) f rs h = ap (λ (bs : List Bool). has_rule f rs ∷ b
 
 -- the theory's search, by the booleans
 module _ (D : Declared) (rs : List RuleAt) where
-  abbrev lost_as : ℕ → ℕ → ℕ → Result (Unit {0})
-  lost_as f n l = choose (ltb l n) (λ u. refuse 17 (declared_at D (f + l))) (λ u. good tt)
+  abbrev pub lost_as : ℕ → Option ℕ → Result (Unit {0})
+  lost_as f (Some l) = refuse 17 (declared_at D (f + l))
+  lost_as f None = good tt
 
-  lost-from : (f : ℕ) (ns : List ℕ) → refuse_lost D rs f ns ≡ lost_as f (length ns) (lost_from (marks (length ns) f rs))
+  lost-from : (f : ℕ) (ns : List ℕ) → refuse_lost D rs f ns ≡ lost_as f (lost_from (marks (length ns) f rs))
   unfolding marks lost_from
   lost-from f [] = refl
   lost-from f (a ∷ ns) = go (has_rule f rs) (lost-from (suc f) ns)
     where
-      later : (l : ℕ) → lost_as (suc f) (length ns) l ≡ lost_as f (suc (length ns)) (suc l)
-      later l =
+      later : (o : Option ℕ) → lost_as (suc f) o ≡ lost_as f (option_map suc o)
+      later None = refl
+      later (Some l) =
           let z : suc f + l ≡ f + suc l = omega arith in
-          rw (leb-suc-suc (suc l) (length ns), z)
+          rw z
 
-      go : (b : Bool) → refuse_lost D rs (suc f) ns ≡ lost_as (suc f) (length ns) (lost_from (marks (length ns) (suc f) rs))
+      go : (b : Bool) → refuse_lost D rs (suc f) ns ≡ lost_as (suc f) (lost_from (marks (length ns) (suc f) rs))
           → choose b (λ u. refuse_lost D rs (suc f) ns) (λ u. refuse 17 (declared_at D f))
-          ≡ lost_as f (suc (length ns)) (choose b (λ u. suc (lost_from (marks (length ns) (suc f) rs))) (λ u. 0))
+          ≡ lost_as f (choose b (λ u. option_map suc (lost_from (marks (length ns) (suc f) rs))) (λ u. Some 0))
       go true h = h ∙ later (lost_from (marks (length ns) (suc f) rs))
       go false h =
           let z : f ≡ f + 0 = omega arith in
-          let l : 0 < suc (length ns) = omega arith in
-          rw (lt-ltb 0 (suc (length ns)) l, ← z)
+          rw (← z)
 
-  pub lost-is : (ns : List ℕ) (m : ℕ) → length ns ≤ m → (l : ℕ) → l ≡ lost_from (take (length ns) (marks m 0 rs))
-      → refuse_lost D rs 0 ns ≡ choose (ltb l (length ns)) (λ u. refuse 17 (declared_at D l)) (λ u. good tt)
-  lost-is ns m h l i =
-      let z : 0 + l ≡ l = omega arith in
-      lost-from 0 ns ∙ ap (lost_as 0 (length ns)) (ap lost_from (sym (marks-take (length ns) m 0 rs h)) ∙ sym i) ∙ rw z
+  pub lost-is : (ns : List ℕ) (m : ℕ) → length ns ≤ m → refuse_lost D rs 0 ns ≡ lost_as 0 (lost_from (take (length ns) (marks m 0 rs)))
+  lost-is ns m h = lost-from 0 ns ∙ ap (λ (bs : List Bool). lost_as 0 (lost_from bs)) (sym (marks-take (length ns) m 0 rs h))
 
--- of n functions it is at most n
-pub lost-most : (n : ℕ) (bs : List Bool) → lost_from (take n bs) ≤ n
+-- of n functions it is one
+Below : ℕ → Option ℕ → Type 0
+Below n None = Unit {0}
+Below n (Some l) = l < n
+
+below-next : (n : ℕ) (o : Option ℕ) → Below n o → Below (suc n) (option_map suc o)
+unfolding Below
+below-next n None h = tt
+below-next n (Some l) h = omega arith
+
+lost-below : (n : ℕ) (bs : List Bool) → Below n (lost_from (take n bs))
+unfolding lost_from Below
+lost-below zero bs = tt
+lost-below (suc n) [] = tt
+lost-below (suc n) (true ∷ bs) = below-next n (lost_from (take n bs)) (lost-below n bs)
+lost-below (suc n) (false ∷ bs) = omega arith
+
+pub lost-most : (n : ℕ) (bs : List Bool) (l : ℕ) → Some l ≡ lost_from (take n bs) → l < n
+unfolding Below
+lost-most n bs l e = subst (Below n) (sym e) (lost-below n bs)
+
+-- `position` asks the same
+pub position-lost : (bs : List Bool) → position not bs ≡ lost_from bs
 unfolding lost_from
-lost-most zero bs = omega arith
-lost-most (suc n) [] = omega arith
-lost-most (suc n) (true ∷ bs) = omega (arith, lost-most n bs)
-lost-most (suc n) (false ∷ bs) = omega arith
+position-lost [] = refl
+position-lost (true ∷ bs) = by (position_or_len not bs) (length bs) ∙ ap (option_map suc) (position-lost bs)
+  where
+    same : (b : Bool) (p : ℕ) → cond b (Some (1 + p)) None ≡ option_map suc (cond b (Some p) None)
+    same true p = let z : 1 + p ≡ suc p = omega arith in ap Some z
+    same false p = refl
 
--- the search by place
-module _ (bs : List Bool) (f : ℕ) where
-  pub lost-out : length bs ≤ f → f + lost_from (drop f bs) ≡ f
-  unfolding lost_from
-  lost-out h = rw (drop_of_length-le bs h) (omega arith)
-
-  next : f < length bs → drop f bs ≡ get_or bs f false ∷ drop (f + 1) bs
-  next h = rw add-one (drop-cons bs f false h)
-
-  pub lost-here : f < length bs → get_or bs f false ≡ false → f + lost_from (drop f bs) ≡ f
-  unfolding lost_from
-  lost-here h e = rw (next h, e) (omega arith)
-
-  pub lost-later : f < length bs → get_or bs f false ≡ true → f + lost_from (drop f bs) ≡ f + 1 + lost_from (drop (f + 1) bs)
-  unfolding lost_from
-  lost-later h e = rw (next h, e) (omega arith)
+    by : (p n : ℕ) → cond (ltb (1 + p) (suc n)) (Some (1 + p)) None ≡ option_map suc (cond (ltb p n) (Some p) None)
+    by p n =
+        let z : 1 + p ≡ suc p = omega arith in
+        ap (λ (i : ℕ). cond (ltb i (suc n)) (Some i) None) z ∙ ap (λ (b : Bool). cond b (Some (suc p)) None) (leb-suc-suc (suc p) n) ∙ ap (λ (i : ℕ). cond (ltb p n) (Some i) None) (sym z) ∙ same (ltb p n) p
+position-lost (false ∷ bs) =
+    let l : 0 < suc (length bs) = omega arith in
+    rw (lt-ltb 0 (suc (length bs)) l)

@@ -1,155 +1,182 @@
 -- The laws of a program's turns: what each record makes, that each turn goes on, and that the fuel is always enough.
 use Prim.Native.Nat.{ℕ, zero, suc, ◌+◌, ◌-◌, ◌≤◌, ◌<◌}
-use mathlib.Core.Path.{◌≡◌, refl, sym, ◌∙◌}
-use mathlib.Core.Bool.{Bool, true, false, ◌&&◌}
+use mathlib.Core.Path.{◌≡◌, refl, sym, ap, subst, ◌∙◌}
+use Rattle.std.proofs.lemmas.Bool.{false≢true}
+use mathlib.Core.Bool.{Bool, true, false, not, ◌&&◌}
+use denote.Enum.Bare.{sameb}
+use Rattle.checker.specs.contracts.declarations.Stage.{the_type}
+use Rattle.checker.specs.declared.declarations.Stage.{Stage}
+use Rattle.checker.specs.declared.declarations.Stage.TheVariants.{Exceptions, Functions, Rules, End}
 use mathlib.Core.List.{List}
 use native.Mathlib.Omega.{arith}
 use lib.Dec.{eqb, leb, ltb}
 use lib.ListN.{length, get_or, length-set}
-use borrow.Author.Tests.{lt-ltb, le-ltb, eq-eqb, ne_eqb, ltb-true, ltb-false, eqb-false}
+use borrow.Author.Tests.{ne_eqb, ltb-true}
+use Rattle.std.specs.Prelude.{Option, Some, None, Result, Ok, Err}
 use Rattle.theory.specs.Syntax.{choose, pick}
-use Rattle.theory.specs.Bytes.{declared_at}
 use Rattle.checker.specs.declared.side.Stand.{Stand}
 use Rattle.checker.specs.declared.side.Stand.TheVariants.{Left, Right}
 use Rattle.record.specs.declared.Record.{Record}
 use Rattle.checker.specs.declared.side.Step.{Step}
 use Rattle.checker.specs.declared.side.Side.{Side}
 use Rattle.checker.specs.declared.declarations.Top.{Top}
+use Rattle.checker.specs.declared.refusal.Refusal.{Refusal}
+use Rattle.checker.specs.declared.refusal.Reason.{Reason}
+use Rattle.checker.specs.declared.refusal.Reason.TheVariants.{KindNotAllowed}
+use Rattle.checker.specs.Refusal.{refuse}
 use Rattle.record.specs.Record.{record_at}
 use Rattle.checker.specs.Node.{tok_at}
-use Rattle.checker.specs.Side.{step_of, most_of, stop_side, no_vars, on_step, on_record, scan, scan_from}
-use Rattle.checker.specs.Answer.{declared, table, padded}
-use Rattle.checker.specs.Declarations.{Kept, stop_top, start_top, own_arities, own_ruled, exception_turn, function_turn}
-use Rattle.checker.specs.Program.{right_turn, left_turn, sides_turn, rule_turn, lost_from, end_turn, record_turn, turn_of, turns, parse_of}
+use Rattle.checker.specs.Side.{step_of, most_of, no_vars, on_step, on_record, scan, scan_from}
+use Rattle.checker.specs.Answer.{table, padded}
+use Rattle.checker.specs.Declarations.{Kept, takes_exceptions, takes_functions, at_end, start_top, own_arities, own_ruled, exception_turn, function_turn}
+use Rattle.checker.specs.Program.{right_turn, left_turn, sides_turn, rule_turn, on_turn, lost_from, or_lost, end_turn, record_turn, turn_of, turns, parse_of}
 use Rattle.checker.proofs.side.Scan.{choose-same}
-use Rattle.record.proofs.Laws.{record-most}
+use Rattle.record.proofs.Laws.{record-fits}
 
 -- a side ends no earlier than it starts
-choose-at : (b : Bool) (x y : Unit {0} → Side) (p : ℕ) → p ≤ (x tt).at → p ≤ (y tt).at → p ≤ (choose b x y).at
-choose-at true x y p h k = h
-choose-at false x y p h k = k
+abbrev Grows : ℕ → Result Side Refusal → Type 0
+Grows p (Err e) = Unit {0}
+Grows p (Ok s) = p ≤ s.at
 
-step-grows : (go : List Bool → ℕ → ℕ → ℕ → Side) (most due count p n : ℕ) (t : Step) → ((s : List Bool) (d c : ℕ) → p + n ≤ (go s d c (p + n)).at) → p ≤ (on_step go most due count p n t).at
+grows-from : (p q : ℕ) (o : Result Side Refusal) → p ≤ q → Grows q o → Grows p o
+grows-from p q (Err e) h k = tt
+grows-from p q (Ok s) h k = omega arith
+
+choose-grows : (b : Bool) (x y : Unit {0} → Result Side Refusal) (p : ℕ) → Grows p (x tt) → Grows p (y tt) → Grows p (choose b x y)
+choose-grows true x y p h k = h
+choose-grows false x y p h k = k
+
+step-grows : (go : List Bool → ℕ → ℕ → ℕ → Result Side Refusal) (most due count p n : ℕ) (t : Result Step Reason) → ((s : List Bool) (d c : ℕ) → Grows (p + n) (go s d c (p + n))) → Grows p (on_step go most due count p n t)
 unfolding on_step
-step-grows go most due count p n t h =
-    let z : p ≤ p = omega arith in
-    let k : p ≤ (go t.seen (t.parts + due) (count + t.words) (p + n)).at = omega (arith, h t.seen (t.parts + due) (count + t.words)) in
-    choose-at (eqb t.refusal 0) _ (λ u. stop_side t.refusal p) p
-    (choose-at (leb (count + t.words) most) (λ u. go t.seen (t.parts + due) (count + t.words) (p + n)) (λ u. stop_side 8 p) p k z) z
+step-grows go most due count p n (Err r) h = tt
+step-grows go most due count p n (Ok t) h =
+    choose-grows (leb (count + t.words) most) _ _ p (grows-from p (p + n) (go t.seen (t.parts + due) (count + t.words) (p + n)) (omega arith) (h t.seen (t.parts + due) (count + t.words))) tt
 
-scan-grows : (n : ℕ) (ns ws : List ℕ) (f : ℕ) (m : Stand) (s : List Bool) (due count p : ℕ) → p ≤ (scan n ns ws f m s due count p).at
-unfolding scan on_record
+record-grows : (n : ℕ) (ns ws : List ℕ) (go : List Bool → ℕ → ℕ → ℕ → Result Side Refusal) (m : Stand) (s : List Bool) (due count p : ℕ) (o : Option Record)
+    → ((s' : List Bool) (d c q : ℕ) → Grows q (go s' d c q)) → Grows p (on_record n ns ws go m s due count p o)
+unfolding on_record
+record-grows n ns ws go m s due count p None h = tt
+record-grows n ns ws go m s due count p (Some r) h = step-grows go (most_of m) due count p r.len (step_of m s (tok_at n ns p r.kind r.body)) (λ s' d c. h s' d c (p + r.len))
+
+scan-grows : (n : ℕ) (ns ws : List ℕ) (f : ℕ) (m : Stand) (s : List Bool) (due count p : ℕ) → Grows p (scan n ns ws f m s due count p)
+unfolding scan
 scan-grows n ns ws zero m s zero count p = omega arith
-scan-grows n ns ws zero m s (suc due) count p = omega arith
+scan-grows n ns ws zero m s (suc due) count p = tt
 scan-grows n ns ws (suc f) m s zero count p = omega arith
-scan-grows n ns ws (suc f) m s (suc due) count p =
-    let z : p ≤ p = omega arith in
-    choose-at (eqb (record_at ws p).len 0) (λ u. stop_side 2 p) _ p z
-    (step-grows (scan n ns ws f m) (most_of m) due count p (record_at ws p).len (step_of m s (tok_at n ns p (record_at ws p).kind (record_at ws p).body)) (λ s' d c. scan-grows n ns ws f m s' d c (p + (record_at ws p).len)))
+scan-grows n ns ws (suc f) m s (suc due) count p = record-grows n ns ws (scan n ns ws f m) m s due count p (record_at ws p) (λ s' d c q. scan-grows n ns ws f m s' d c q)
 
--- what a record makes of a turn
-module _ (ws : List ℕ) (t : Top) (r : Record) (read : r ≡ record_at ws t.place) where
-  pub turn-ends : r.len ≡ 0 → stop_top 2 t.place ≡ turn_of ws t
-  unfolding turn_of record_turn
-  turn-ends e = rw (← read, eq-eqb r.len 0 e)
+-- a record that is none of a program's
+pub turn-unknown : (ws : List ℕ) (t : Top) (r : Record) → Some r ≡ record_at ws t.place → (r.kind ≡ 1 → ⊥) → (r.kind ≡ 2 → ⊥) → (r.kind ≡ 3 → ⊥) → (r.kind ≡ 4 → ⊥)
+    → refuse KindNotAllowed t.place ≡ turn_of ws t
+unfolding turn_of record_turn
+turn-unknown ws t r read n1 n2 n3 n4 =
+    sym (rw (ne_eqb r.kind 1 n1, ne_eqb r.kind 2 n2, ne_eqb r.kind 3 n3, ne_eqb r.kind 4 n4)) ∙ ap (record_turn ws t) read
 
-  module _ (more : r.len ≡ 0 → ⊥) where
-    pub turn-exception : r.kind ≡ 1 → exception_turn t r.body (t.place + r.len) ≡ turn_of ws t
-    unfolding turn_of record_turn
-    turn-exception e = rw (← read, ne_eqb r.len 0 more, eq-eqb r.kind 1 e)
-
-    pub turn-function : (r.kind ≡ 1 → ⊥) → r.kind ≡ 2 → function_turn t r.body r.second (t.place + r.len) ≡ turn_of ws t
-    unfolding turn_of record_turn
-    turn-function n1 e = rw (← read, ne_eqb r.len 0 more, ne_eqb r.kind 1 n1, eq-eqb r.kind 2 e)
-
-    pub turn-rule : (r.kind ≡ 1 → ⊥) → (r.kind ≡ 2 → ⊥) → r.kind ≡ 3 → rule_turn ws t r.body (t.place + r.len) ≡ turn_of ws t
-    unfolding turn_of record_turn
-    turn-rule n1 n2 e = rw (← read, ne_eqb r.len 0 more, ne_eqb r.kind 1 n1, ne_eqb r.kind 2 n2, eq-eqb r.kind 3 e)
-
-    pub turn_end : (r.kind ≡ 1 → ⊥) → (r.kind ≡ 2 → ⊥) → (r.kind ≡ 3 → ⊥) → r.kind ≡ 4 → end_turn t (t.place + r.len) (length ws) ≡ turn_of ws t
-    unfolding turn_of record_turn
-    turn_end n1 n2 n3 e = rw (← read, ne_eqb r.len 0 more, ne_eqb r.kind 1 n1, ne_eqb r.kind 2 n2, ne_eqb r.kind 3 n3, eq-eqb r.kind 4 e)
-
-    pub turn-unknown : (r.kind ≡ 1 → ⊥) → (r.kind ≡ 2 → ⊥) → (r.kind ≡ 3 → ⊥) → (r.kind ≡ 4 → ⊥) → stop_top 3 t.place ≡ turn_of ws t
-    unfolding turn_of record_turn
-    turn-unknown n1 n2 n3 n4 = rw (← read, ne_eqb r.len 0 more, ne_eqb r.kind 1 n1, ne_eqb r.kind 2 n2, ne_eqb r.kind 3 n3, ne_eqb r.kind 4 n4)
+-- what falls from turn to turn
+unfoldable pub left_over : List ℕ → Top → ℕ
+left_over ws t = pick (at_end t.stage) 0 (suc (length ws - t.place))
 
 -- a turn that does not end goes on from a later place, and keeps what is kept
 module _ (ws : List ℕ) (t : Top) where
-  abbrev Goes : Top → Type 0
-  Goes u = (u.stage < 3 → length ws - u.place < length ws - t.place) × (Kept t → Kept u)
+  abbrev pub Goes : Result Top Refusal → Type 0
+  Goes (Err e) = Unit {0}
+  Goes (Ok u) = (at_end u.stage ≡ false → length ws - u.place < length ws - t.place) × (Kept t → Kept u)
 
-  choose-goes : (b : Bool) (x y : Unit {0} → Top) → (b ≡ true → Goes (x tt)) → (b ≡ false → Goes (y tt)) → Goes (choose b x y)
+  choose-goes : (b : Bool) (x y : Unit {0} → Result Top Refusal) → (b ≡ true → Goes (x tt)) → (b ≡ false → Goes (y tt)) → Goes (choose b x y)
   choose-goes true x y h k = h refl
   choose-goes false x y h k = k refl
-
-  stop_goes : (n p : ℕ) → Goes (stop_top n p)
-  unfolding stop_top
-  stop_goes n p = (λ h. absurd (omega arith), λ k. (omega arith, refl, omega arith, refl, omega arith, refl))
 
   module _ (q : ℕ) (on : length ws - q < length ws - t.place) where
     exception-goes : (b : ℕ) → Goes (exception_turn t b q)
     unfolding exception_turn
     exception-goes b =
-        choose-goes (eqb t.stage 0) _ _
+        choose-goes (takes_exceptions t.stage) _ _
         (λ e. choose-goes (ltb t.exceptions 16) _ _
-        (λ e. choose-goes (eqb b t.exceptions) _ _ (λ x. (λ h. on, λ k. (k.0, k.1, k.2, k.3, omega (arith, ltb-true t.exceptions 16 e), k.5))) (λ e. stop_goes 4 t.place)) (λ e. stop_goes 9 t.place))
-        (λ e. stop_goes 3 t.place)
+        (λ e. choose-goes (eqb b t.exceptions) _ _ (λ x. (λ h. on, λ k. (k.0, k.1, k.2, k.3, omega (arith, ltb-true t.exceptions 16 e), k.5))) (λ e. tt)) (λ e. tt))
+        (λ e. tt)
 
     function-goes : (b a : ℕ) → Goes (function_turn t b a q)
     unfolding function_turn
     function-goes b a =
-        choose-goes (leb t.stage 1) _ _
+        choose-goes (takes_functions t.stage) _ _
         (λ e. choose-goes (ltb t.functions 32) _ _
-        (λ e. choose-goes (eqb b t.functions && leb a 4) _ _ (λ x. (λ h. on, λ k. (omega (arith, ltb-true t.functions 32 e), length-set t.arities (16 + t.functions) a ∙ k.1, k.2, k.3, k.4, k.5))) (λ x. stop_goes 4 t.place))
-        (λ e. stop_goes 9 t.place))
-        (λ e. stop_goes 3 t.place)
+        (λ e. choose-goes (eqb b t.functions && leb a 4) _ _ (λ x. (λ h. on, λ k. (omega (arith, ltb-true t.functions 32 e), length-set t.arities (16 + t.functions) a ∙ k.1, k.2, k.3, k.4, k.5))) (λ x. tt))
+        (λ e. tt))
+        (λ e. tt)
+
+    right-goes : (f : ℕ) (r : Result Side Refusal) → t.rules < 64 → Grows q r → Goes (right_turn t f r)
+    unfolding right_turn
+    right-goes f (Err e) few h = tt
+    right-goes f (Ok r) few h = (λ e. omega (arith, h, on), λ k. (k.0, k.1, omega arith, length-set t.openings t.rules t.place ∙ k.3, k.4, length-set t.ruled f true ∙ k.5))
+
+    left-goes : (f : ℕ) (l : Result Side Refusal) (right : List Bool → ℕ → Result Side Refusal) → t.rules < 64 → Grows q l → ((s : List Bool) (p : ℕ) → Grows p (right s p)) → Goes (left_turn t f l right)
+    unfolding left_turn
+    left-goes f (Err e) right few h k = tt
+    left-goes f (Ok l) right few h k = right-goes f (right l.seen l.at) few (grows-from q l.at (right l.seen l.at) h (k l.seen l.at))
 
     sides-goes : (f : ℕ) → t.rules < 64 → Goes (sides_turn ws t f q)
-    unfolding sides_turn left_turn right_turn scan_from
+    unfolding sides_turn scan_from
     sides-goes f few =
-        let l = scan t.exceptions (own_arities t) ws (suc (length ws - q)) Left no_vars (get_or (own_arities t) f 0) 1 q in
-        let r = scan t.exceptions (own_arities t) ws (suc (length ws - l.at)) Right l.seen 1 0 l.at in
-        let a = scan-grows t.exceptions (own_arities t) ws (suc (length ws - q)) Left no_vars (get_or (own_arities t) f 0) 1 q in
-        let b = scan-grows t.exceptions (own_arities t) ws (suc (length ws - l.at)) Right l.seen 1 0 l.at in
-        choose-goes (eqb l.refusal 0) _ _
-        (λ e. choose-goes (eqb r.refusal 0) _ _ (λ e. (λ h. omega (arith, a, b, on), λ k. (k.0, k.1, omega arith, length-set t.openings t.rules t.place ∙ k.3, k.4, length-set t.ruled f true ∙ k.5))) (λ e. stop_goes r.refusal r.at))
-        (λ e. stop_goes l.refusal l.at)
+        left-goes f (scan t.exceptions (own_arities t) ws (suc (length ws - q)) Left no_vars (get_or (own_arities t) f 0) 1 q) (λ s p. scan t.exceptions (own_arities t) ws (suc (length ws - p)) Right s 1 0 p) few
+        (scan-grows t.exceptions (own_arities t) ws (suc (length ws - q)) Left no_vars (get_or (own_arities t) f 0) 1 q)
+        (λ s p. scan-grows t.exceptions (own_arities t) ws (suc (length ws - p)) Right s 1 0 p)
 
     rule-goes : (b : ℕ) → Goes (rule_turn ws t b q)
     unfolding rule_turn
     rule-goes b =
-        choose-goes (ltb t.rules 64) _ _ (λ e. choose-goes (ltb b t.functions) _ _ (λ u. sides-goes b (ltb-true t.rules 64 e)) (λ e. stop_goes 4 t.place)) (λ e. stop_goes 9 t.place)
+        choose-goes (ltb t.rules 64) _ _ (λ e. choose-goes (ltb b t.functions) _ _ (λ u. sides-goes b (ltb-true t.rules 64 e)) (λ e. tt)) (λ e. tt)
+
+  lost-goes : (o : Option ℕ) (go : Unit {0} → Result Top Refusal) → Goes (go tt) → Goes (or_lost t o go)
+  lost-goes (Some f) go h = tt
+  lost-goes None go h = h
 
   end_goes : (q len : ℕ) → Goes (end_turn t q len)
   unfolding end_turn
   end_goes q len =
-      let lost = lost_from (own_ruled t) in
-      choose-goes (ltb lost t.functions) _ _ (λ e. stop_goes 17 (declared_at (declared t.exceptions (own_arities t)) lost))
-      (λ e. choose-goes (ltb q len) _ _ (λ e. stop_goes 11 q) (λ e. (λ h. absurd (omega arith), λ k. k)))
+      lost-goes (lost_from (own_ruled t)) _ (choose-goes (ltb q len) _ _ (λ e. tt) (λ e. (λ h. absurd (false≢true (sym h)), λ k. k)))
 
-  pub turn-goes : Goes (turn_of ws t)
-  unfolding turn_of record_turn
-  turn-goes =
-      let r = record_at ws t.place in
-      choose-goes (eqb r.len 0) _ _ (λ e. stop_goes 2 t.place)
-      (λ e. let z = eqb-false r.len 0 e in
-      let on : length ws - (t.place + r.len) < length ws - t.place = omega (arith, record-most ws t.place) in
+  record-goes : (o : Option Record) → record_at ws t.place ≡ o → Goes (record_turn ws t o)
+  unfolding record_turn
+  record-goes None e = tt
+  record-goes (Some r) e =
+      let l = record-fits ws t.place r e in
+      let on : length ws - (t.place + r.len) < length ws - t.place = omega (arith, l) in
       choose-goes (eqb r.kind 1) _ _ (λ e. exception-goes (t.place + r.len) on r.body)
       (λ e. choose-goes (eqb r.kind 2) _ _ (λ e. function-goes (t.place + r.len) on r.body r.second)
       (λ e. choose-goes (eqb r.kind 3) _ _ (λ e. rule-goes (t.place + r.len) on r.body)
-      (λ e. choose-goes (eqb r.kind 4) _ _ (λ e. end_goes (t.place + r.len) (length ws)) (λ e. stop_goes 3 t.place)))))
+      (λ e. choose-goes (eqb r.kind 4) _ _ (λ e. end_goes (t.place + r.len) (length ws)) (λ e. tt))))
+
+  pub turn-goes : Goes (turn_of ws t)
+  unfolding turn_of
+  turn-goes = record-goes (record_at ws t.place) refl
+
+-- the loop's test is whether the end is read
+pub stage-differs : (s : Stage) → true ≡ not (sameb the_type s End) → at_end s ≡ false
+stage-differs Exceptions e = refl
+stage-differs Functions e = refl
+stage-differs Rules e = refl
+stage-differs End e = cc
+
+pub stage-same : (s : Stage) → false ≡ not (sameb the_type s End) → at_end s ≡ true
+stage-same Exceptions e = cc
+stage-same Functions e = cc
+stage-same Rules e = cc
+stage-same End e = refl
 
 -- the turns
 module _ (ws : List ℕ) where
-  pub turns-end : (f : ℕ) (t : Top) → 3 ≤ t.stage → turns ws f t ≡ t
+  pub turns-end : (f : ℕ) (t : Top) → at_end t.stage ≡ true → turns ws f t ≡ Ok t
   unfolding turns
-  turns-end zero t h = rw (le-ltb t.stage 3 h)
-  turns-end (suc f) t h = rw (le-ltb t.stage 3 h)
+  turns-end zero t h = rw h
+  turns-end (suc f) t h = rw h
 
-  turns-stop : (f g : ℕ) (t : Top) (b : Bool) → ltb t.stage 3 ≡ b → (t.stage < 3 → turns ws f t ≡ turns ws g t) → turns ws f t ≡ turns ws g t
-  turns-stop f g t true e h = h (ltb-true t.stage 3 e)
-  turns-stop f g t false e h = turns-end f t (ltb-false t.stage 3 e) ∙ sym (turns-end g t (ltb-false t.stage 3 e))
+  turns-stop : (f g : ℕ) (t : Top) (b : Bool) → at_end t.stage ≡ b → (at_end t.stage ≡ false → turns ws f t ≡ turns ws g t) → turns ws f t ≡ turns ws g t
+  turns-stop f g t true e h = turns-end f t e ∙ sym (turns-end g t e)
+  turns-stop f g t false e h = h e
+
+  on-turn_same : (t : Top) (go go' : Top → Result Top Refusal) (o : Result Top Refusal) → Goes ws t o → ((u : Top) → (at_end u.stage ≡ false → length ws - u.place < length ws - t.place) → go u ≡ go' u) → on_turn go o ≡ on_turn go' o
+  on-turn_same t go go' (Err e) h k = refl
+  on-turn_same t go go' (Ok u) h k = k u h.0
 
   -- any fuel above the number of bytes left is enough
   pub turns-fuel : (f g : ℕ) (t : Top) → length ws - t.place < f → length ws - t.place < g → turns ws f t ≡ turns ws g t
@@ -157,10 +184,9 @@ module _ (ws : List ℕ) where
   turns-fuel zero g t h k = absurd (omega arith)
   turns-fuel (suc f) zero t h k = absurd (omega arith)
   turns-fuel (suc f) (suc g) t h k =
-      choose-same (ltb t.stage 3) _ _ _ _
-      (λ e. turns-stop f g (turn_of ws t) (ltb (turn_of ws t).stage 3) refl
-      (λ s. turns-fuel f g (turn_of ws t) (omega (arith, (turn-goes ws t).0 s)) (omega (arith, (turn-goes ws t).0 s))))
-      (λ e. refl)
+      choose-same (at_end t.stage) _ _ _ _ (λ e. refl)
+      (λ e. on-turn_same t (turns ws f) (turns ws g) (turn_of ws t) (turn-goes ws t)
+      (λ u l. turns-stop f g u (at_end u.stage) refl (λ s. let m = l s in turns-fuel f g u (omega (arith, m)) (omega (arith, m)))))
 
   pub parse-starts : (t : Top) → t ≡ start_top → parse_of ws ≡ turns ws (suc (length ws - t.place)) t
   unfolding parse_of start_top table padded
@@ -170,27 +196,33 @@ module _ (ws : List ℕ) where
   unfolding start_top table padded
   start-kept t e = rw e (omega arith, refl, omega arith, refl, omega arith, refl)
 
-  pub parse-goes : (t u : Top) → t.stage < 3 → u ≡ turn_of ws t → turns ws (suc (length ws - t.place)) t ≡ turns ws (suc (length ws - u.place)) u
-  unfolding turns
-  parse-goes t u h e =
-      rw (lt-ltb t.stage 3 h, e)
-      (turns-stop (length ws - t.place) (suc (length ws - (turn_of ws t).place)) (turn_of ws t) (ltb (turn_of ws t).stage 3) refl
-      (λ s. turns-fuel (length ws - t.place) (suc (length ws - (turn_of ws t).place)) (turn_of ws t) ((turn-goes ws t).0 s) (omega arith)))
+  module _ (t : Top) (more : at_end t.stage ≡ false) where
+    turns-next : (o : Result Top Refusal) → o ≡ turn_of ws t → turns ws (suc (length ws - t.place)) t ≡ on_turn (turns ws (length ws - t.place)) o
+    unfolding turns
+    turns-next o e = rw (more, e)
 
-  pub goes_kept : (t u : Top) → u ≡ turn_of ws t → Kept t → Kept u
-  goes_kept t u e k = rw e ((turn-goes ws t).1 k)
+    pub parse-refused : (r : Refusal) → Err r ≡ turn_of ws t → turns ws (suc (length ws - t.place)) t ≡ Err r
+    parse-refused r e = turns-next (Err r) e
 
-  pub parse-ends : (t : Top) → 3 ≤ t.stage → turns ws (suc (length ws - t.place)) t ≡ t
+    module _ (u : Top) (next : Ok u ≡ turn_of ws t) where
+      goes : Goes ws t (Ok u)
+      goes = subst (Goes ws t) (sym next) (turn-goes ws t)
+
+      pub goes_kept : Kept t → Kept u
+      goes_kept = goes.1
+
+      pub parse-goes : turns ws (suc (length ws - t.place)) t ≡ turns ws (suc (length ws - u.place)) u
+      parse-goes =
+          turns-next (Ok u) next
+          ∙ turns-stop (length ws - t.place) (suc (length ws - u.place)) u (at_end u.stage) refl (λ s. let m = goes.0 s in turns-fuel (length ws - t.place) (suc (length ws - u.place)) u m (omega arith))
+
+      over-falls : (b : Bool) → at_end u.stage ≡ b → pick b 0 (suc (length ws - u.place)) < suc (length ws - t.place)
+      over-falls true e = omega arith
+      over-falls false e = let m = goes.0 e in omega (arith, m)
+
+      pub parse-falls : left_over ws u < left_over ws t
+      unfolding left_over
+      parse-falls = rw more (over-falls (at_end u.stage) refl)
+
+  pub parse-ends : (t : Top) → at_end t.stage ≡ true → turns ws (suc (length ws - t.place)) t ≡ Ok t
   parse-ends t h = turns-end (suc (length ws - t.place)) t h
-
-  -- what falls from turn to turn
-  unfoldable pub left_over : Top → ℕ
-  left_over t = pick (ltb t.stage 3) (suc (length ws - t.place)) 0
-
-  over-falls : (t u : Top) (b : Bool) → ltb u.stage 3 ≡ b → (u.stage < 3 → length ws - u.place < length ws - t.place) → pick b (suc (length ws - u.place)) 0 < suc (length ws - t.place)
-  over-falls t u true e h = omega (arith, h (ltb-true u.stage 3 e))
-  over-falls t u false e h = omega arith
-
-  pub parse-falls : (t u : Top) → t.stage < 3 → u ≡ turn_of ws t → left_over u < left_over t
-  unfolding left_over
-  parse-falls t u h e = rw (lt-ltb t.stage 3 h) (over-falls t u (ltb u.stage 3) refl (rw e (turn-goes ws t).0))

@@ -1,18 +1,21 @@
 -- `checker::settle` meets its contract.
-use mathlib.Core.Path.{◌∙◌}
-use native.Mathlib.Omega.{arith}
+use mathlib.Core.Path.{ap, ◌∙◌}
+use mathlib.Core.List.{List, []}
+use Prim.Native.Nat.{ℕ}
+use Rattle.std.specs.Prelude.{Err}
+use Rattle.checker.specs.Overlap.{first_clash}
+use Rattle.checker.specs.Program.{settled, own_openings}
 use Rattle.checker.proofs.program.Rule.{own-part}
-use Rattle.checker.proofs.Answer.{openings-part, settled_at, settled-nowhere}
 use Rattle.checker.proofs.settle.Goals as goal
 
-pub slice_bounds-first_overlap-end : goal.slice_bounds-first_overlap-end
-slice_bounds-first_overlap-end c = omega (arith, c.requires.1)
+pub returns-in-Some : goal.returns-in-Some
+unfolding settled own_openings
+returns-in-Some c =
+    let t = c.args.top in
+    ap Err c.at.ensures ∙ ap (settled t) (c.in-Some.ensures ∙ ap (λ (ns : List ℕ). first_clash c.args.program.now ns [] (own_openings t)) (own-part t))
 
-pub slice_bounds-first_overlap-end-2 : goal.slice_bounds-first_overlap-end-2
-slice_bounds-first_overlap-end-2 c = omega (arith, c.requires.3)
-
-pub returns-in-At : goal.returns-in-At
-returns-in-At c = c.refused_program.ensures ∙ settled_at _ _ _ _ (own-part c.args.top) (openings-part c.args.top) _ c.first_overlap.ensures _ c.in-At.is
-
-pub returns-in-Nowhere : goal.returns-in-Nowhere
-returns-in-Nowhere c = settled-nowhere _ _ _ _ (own-part c.args.top) (openings-part c.args.top) _ c.first_overlap.ensures c.in-Nowhere.is
+pub returns-in-None : goal.returns-in-None
+unfolding settled own_openings
+returns-in-None c =
+    let t = c.args.top in
+    ap (settled t) (c.in-None.ensures ∙ ap (λ (ns : List ℕ). first_clash c.args.program.now ns [] (own_openings t)) (own-part t))

@@ -4,19 +4,24 @@ use mathlib.Core.Path.{◌≡◌, refl, sym, ap, ◌∙◌}
 use mathlib.Core.Bool.{Bool, true, false}
 use mathlib.Core.List.{List}
 use native.Mathlib.Omega.{arith}
-use lib.Dec.{eqb, leb}
+use lib.Dec.{leb}
 use lib.ListN.{length}
-use borrow.Author.Tests.{eq-eqb, ne_eqb, le-leb, lt-leb, eqb-false}
+use borrow.Author.Tests.{le-leb, lt-leb}
+use Rattle.std.specs.Prelude.{Option, Some, None, Result, Ok, Err}
 use Rattle.theory.specs.Syntax.{choose}
 use Rattle.checker.specs.declared.side.Stand.{Stand}
 use Rattle.checker.specs.declared.side.Stand.TheVariants.{Left, Right, Asked}
 use Rattle.record.specs.declared.Record.{Record}
 use Rattle.checker.specs.declared.side.Step.{Step}
 use Rattle.checker.specs.declared.side.Side.{Side}
+use Rattle.checker.specs.declared.refusal.Reason.{Reason}
+use Rattle.checker.specs.declared.refusal.Reason.TheVariants.{BytesEnd, TooManyWords}
+use Rattle.checker.specs.declared.refusal.Refusal.{Refusal}
+use Rattle.checker.specs.Refusal.{refuse}
 use Rattle.record.specs.Record.{record_at}
 use Rattle.checker.specs.Node.{tok_at}
-use Rattle.checker.specs.Side.{step_of, most_of, stop_side, done_side, on_step, on_record, scan, scan_from}
-use Rattle.record.proofs.Laws.{record-most}
+use Rattle.checker.specs.Side.{step_of, most_of, on_step, on_record, scan, scan_from}
+use Rattle.record.proofs.Laws.{record-fits}
 
 pub most-small : (m : Stand) → most_of m ≤ 512
 unfolding most_of
@@ -28,47 +33,42 @@ pub choose-same : {A : Type 0} (b : Bool) (x y x' y' : Unit {0} → A) → (b �
 choose-same true x y x' y' h k = h refl
 choose-same false x y x' y' h k = k refl
 
-step_same : (go go' : List Bool → ℕ → ℕ → ℕ → Side) (most due count p n : ℕ) (t : Step)
+step_same : (go go' : List Bool → ℕ → ℕ → ℕ → Result Side Refusal) (most due count p n : ℕ) (t : Result Step Reason)
     → ((s : List Bool) (d c : ℕ) → go s d c (p + n) ≡ go' s d c (p + n)) → on_step go most due count p n t ≡ on_step go' most due count p n t
 unfolding on_step
-step_same go go' most due count p n t h =
-    choose-same (eqb t.refusal 0) _ _ _ _
-    (λ e. choose-same (leb (count + t.words) most) _ _ _ _ (λ f. h t.seen (t.parts + due) (count + t.words)) (λ f. refl))
-    (λ e. refl)
+step_same go go' most due count p n (Err r) h = refl
+step_same go go' most due count p n (Ok t) h =
+    choose-same (leb (count + t.words) most) _ _ _ _ (λ f. h t.seen (t.parts + due) (count + t.words)) (λ f. refl)
 
 -- what one step makes of the scan
-module _ (go : List Bool → ℕ → ℕ → ℕ → Side) (most due count p n : ℕ) (t : Step) where
-  step-refused : (t.refusal ≡ 0 → ⊥) → on_step go most due count p n t ≡ stop_side t.refusal p
+module _ (go : List Bool → ℕ → ℕ → ℕ → Result Side Refusal) (most due count p n : ℕ) (t : Step) where
+  step-big : most < count + t.words → on_step go most due count p n (Ok t) ≡ refuse TooManyWords p
   unfolding on_step
-  step-refused e = rw (ne_eqb t.refusal 0 e)
+  step-big h = rw (lt-leb (count + t.words) most h)
 
-  step-big : t.refusal ≡ 0 → most < count + t.words → on_step go most due count p n t ≡ stop_side 8 p
+  step-on : count + t.words ≤ most → on_step go most due count p n (Ok t) ≡ go t.seen (t.parts + due) (count + t.words) (p + n)
   unfolding on_step
-  step-big e h = rw (eq-eqb t.refusal 0 e, lt-leb (count + t.words) most h)
-
-  step-on : t.refusal ≡ 0 → count + t.words ≤ most → on_step go most due count p n t ≡ go t.seen (t.parts + due) (count + t.words) (p + n)
-  unfolding on_step
-  step-on e h = rw (eq-eqb t.refusal 0 e, le-leb (count + t.words) most h)
+  step-on h = rw (le-leb (count + t.words) most h)
 
 module _ (n : ℕ) (ns ws : List ℕ) where
+  record_same : (go go' : List Bool → ℕ → ℕ → ℕ → Result Side Refusal) (m : Stand) (s : List Bool) (due count p : ℕ) (o : Option Record)
+      → ((r : Record) → o ≡ Some r → (s' : List Bool) (d c : ℕ) → go s' d c (p + r.len) ≡ go' s' d c (p + r.len)) → on_record n ns ws go m s due count p o ≡ on_record n ns ws go' m s due count p o
+  unfolding on_record
+  record_same go go' m s due count p None h = refl
+  record_same go go' m s due count p (Some r) h = step_same go go' (most_of m) due count p r.len _ (h r refl)
+
   -- any fuel above the number of bytes left is enough
   pub scan-fuel : (f g : ℕ) (m : Stand) (s : List Bool) (due count p : ℕ) → length ws - p < f → length ws - p < g → scan n ns ws f m s due count p ≡ scan n ns ws g m s due count p
-  unfolding scan on_record
+  unfolding scan
   scan-fuel zero g m s due count p h k = absurd (omega arith)
   scan-fuel (suc f) zero m s due count p h k = absurd (omega arith)
   scan-fuel (suc f) (suc g) m s zero count p h k = refl
   scan-fuel (suc f) (suc g) m s (suc due) count p h k =
-      choose-same (eqb (record_at ws p).len 0) _ _ _ _ (λ e. refl)
-      (λ e. step_same (scan n ns ws f m) (scan n ns ws g m) (most_of m) due count p (record_at ws p).len _
-      (λ s' d c. scan-fuel f g m s' d c (p + (record_at ws p).len) (shorter f e h) (shorter g e k)))
-    where
-      shorter : (i : ℕ) → eqb (record_at ws p).len 0 ≡ false → length ws - p < suc i → length ws - (p + (record_at ws p).len) < i
-      shorter i e h =
-          let z = eqb-false (record_at ws p).len 0 e in
-          omega (arith, record-most ws p)
+      record_same (scan n ns ws f m) (scan n ns ws g m) m s due count p (record_at ws p)
+      (λ r e s' d c. let l = record-fits ws p r e in scan-fuel f g m s' d c (p + r.len) (omega (arith, l)) (omega (arith, l)))
 
   module _ (m : Stand) (s : List Bool) (count p : ℕ) where
-    pub scan-none : scan_from n ns ws m s 0 count p ≡ done_side p s
+    pub scan-none : scan_from n ns ws m s 0 count p ≡ Ok (record { at = p; seen = s })
     unfolding scan_from scan
     scan-none = refl
 
@@ -79,31 +79,33 @@ module _ (n : ℕ) (ns ws : List ℕ) where
         let z : d ≡ suc d - 1 = omega arith in
         ap (λ i. on_record n ns ws (scan n ns ws (length ws - p) m) m s i count p (record_at ws p)) z
 
-    module _ (due : ℕ) (owed : 0 < due) (r : Record) (read : r ≡ record_at ws p) where
-      scan-opened : scan_from n ns ws m s due count p ≡ on_record n ns ws (scan n ns ws (length ws - p) m) m s (due - 1) count p r
-      scan-opened = opened due owed ∙ ap (on_record n ns ws (scan n ns ws (length ws - p) m) m s (due - 1) count p) (sym read)
+    module _ (due : ℕ) (owed : 0 < due) where
+      scan-opened : (o : Option Record) → o ≡ record_at ws p → scan_from n ns ws m s due count p ≡ on_record n ns ws (scan n ns ws (length ws - p) m) m s (due - 1) count p o
+      scan-opened o e = opened due owed ∙ ap (on_record n ns ws (scan n ns ws (length ws - p) m) m s (due - 1) count p) (sym e)
 
-      pub scan-ends : r.len ≡ 0 → scan_from n ns ws m s due count p ≡ stop_side 2 p
+      pub scan-ends : None ≡ record_at ws p → scan_from n ns ws m s due count p ≡ refuse BytesEnd p
       unfolding on_record
-      scan-ends e = scan-opened ∙ rw (eq-eqb r.len 0 e)
+      scan-ends e = scan-opened None e
 
-      module _ (more : r.len ≡ 0 → ⊥) (t : Step) (over : t ≡ step_of m s (tok_at n ns p r.kind r.body)) where
-        scan-stepped : scan_from n ns ws m s due count p ≡ on_step (scan n ns ws (length ws - p) m) (most_of m) (due - 1) count p r.len t
+      module _ (r : Record) (read : Some r ≡ record_at ws p) where
+        scan-stepped : (t : Result Step Reason) → t ≡ step_of m s (tok_at n ns p r.kind r.body) → scan_from n ns ws m s due count p ≡ on_step (scan n ns ws (length ws - p) m) (most_of m) (due - 1) count p r.len t
         unfolding on_record
-        scan-stepped = scan-opened ∙ rw (ne_eqb r.len 0 more, over)
+        scan-stepped t e = scan-opened (Some r) read ∙ ap (on_step (scan n ns ws (length ws - p) m) (most_of m) (due - 1) count p r.len) (sym e)
 
-        pub scan-refused : (t.refusal ≡ 0 → ⊥) → scan_from n ns ws m s due count p ≡ stop_side t.refusal p
-        scan-refused e = scan-stepped ∙ step-refused _ _ _ _ _ _ t e
+        pub scan-refused : (x : Reason) → Err x ≡ step_of m s (tok_at n ns p r.kind r.body) → scan_from n ns ws m s due count p ≡ refuse x p
+        unfolding on_step
+        scan-refused x e = scan-stepped (Err x) e
 
-        pub scan-big : t.refusal ≡ 0 → most_of m < count + t.words → scan_from n ns ws m s due count p ≡ stop_side 8 p
-        scan-big e h = scan-stepped ∙ step-big _ _ _ _ _ _ t e h
+        module _ (t : Step) (over : Ok t ≡ step_of m s (tok_at n ns p r.kind r.body)) where
+          pub scan-big : most_of m < count + t.words → scan_from n ns ws m s due count p ≡ refuse TooManyWords p
+          scan-big h = scan-stepped (Ok t) over ∙ step-big _ _ _ _ _ _ t h
 
-        pub scan-on : t.refusal ≡ 0 → count + t.words ≤ most_of m → scan_from n ns ws m s due count p ≡ scan_from n ns ws m t.seen (due - 1 + t.parts) (count + t.words) (p + r.len)
-        unfolding scan_from
-        scan-on e h =
-            let z : t.parts + (due - 1) ≡ due - 1 + t.parts = omega arith in
-            let l : r.len ≤ length ws - p = rw read (record-most ws p) in
-            let f : length ws - (p + r.len) < length ws - p = omega arith in
-            let g : length ws - (p + r.len) < suc (length ws - (p + r.len)) = omega arith in
-            scan-stepped ∙ step-on _ _ _ _ _ _ t e h ∙ ap (λ d. scan n ns ws (length ws - p) m t.seen d (count + t.words) (p + r.len)) z
-            ∙ scan-fuel (length ws - p) (suc (length ws - (p + r.len))) m t.seen (due - 1 + t.parts) (count + t.words) (p + r.len) f g
+          pub scan-on : count + t.words ≤ most_of m → scan_from n ns ws m s due count p ≡ scan_from n ns ws m t.seen (due - 1 + t.parts) (count + t.words) (p + r.len)
+          unfolding scan_from
+          scan-on h =
+              let z : t.parts + (due - 1) ≡ due - 1 + t.parts = omega arith in
+              let l = record-fits ws p r (sym read) in
+              let f : length ws - (p + r.len) < length ws - p = omega (arith, l) in
+              let g : length ws - (p + r.len) < suc (length ws - (p + r.len)) = omega arith in
+              scan-stepped (Ok t) over ∙ step-on _ _ _ _ _ _ t h ∙ ap (λ d. scan n ns ws (length ws - p) m t.seen d (count + t.words) (p + r.len)) z
+              ∙ scan-fuel (length ws - p) (suc (length ws - (p + r.len))) m t.seen (due - 1 + t.parts) (count + t.words) (p + r.len) f g

@@ -4,9 +4,10 @@ use Prim.Native.Nat.{◌-◌}
 use Rattle.in_place.proofs.Passes.{Going}
 use Rattle.in_place.proofs.pass.Given as goal
 
-abbrev pub invariant-loop-seen : goal.invariant-loop-seen
-invariant-loop-seen l =
-    Going l.arities l.standing l.own l.standing_index l.own_index l.room l.left l.size l.initial.term l.initial.path l.term l.path l.steps l.n
+abbrev pub invariant-loop-change : goal.invariant-loop-change
+invariant-loop-change l =
+    let a = l.search.lists in
+    Going a.arities.now a.standing.now a.own.now a.standing_index.now a.own_index.now l.room l.left l.size l.initial.term l.initial.path l.term l.path l.steps l.n
 
-abbrev pub decreases-loop-seen : goal.decreases-loop-seen
-decreases-loop-seen l = l.left - l.steps
+abbrev pub decreases-loop-change : goal.decreases-loop-change
+decreases-loop-change l = l.left - l.steps

@@ -7,7 +7,7 @@ use Rattle.place.proofs.descend.Given as goal
 
 abbrev pub invariant-loop-at : goal.invariant-loop-at
 invariant-loop-at l =
-    OnPath l.arities l.term l.path l.n × (l.at ≡ get_or l.path l.n 0) × (length l.path ≡ length l.initial.path)
+    OnPath l.search.lists.arities.now l.term l.path l.n × (l.at ≡ get_or l.path l.n 0) × (length l.path ≡ length l.initial.path)
 
 abbrev pub decreases-loop-at : goal.decreases-loop-at
 decreases-loop-at l = length l.term - l.at

@@ -1,26 +1,27 @@
 -- `place::here` meets its contract.
-use mathlib.Core.Path.{sym, ap, ◌∙◌}
-use Rattle.rules.specs.Finding.{fitting_of}
+use mathlib.Core.Path.{◌≡◌, sym, ap, ◌∙◌}
 use Rattle.words.proofs.Parts.{tail-part}
-use Rattle.place.proofs.Path.{here-fits, here-not}
+use Rattle.rules.specs.Lists.{fitting_by}
+use Rattle.place.specs.Path.{site_of, here_in}
+use Rattle.place.proofs.Path.{here-is}
 use Rattle.place.proofs.Noted.{here-inside, here-outside}
 use Rattle.place.proofs.here.Goals as goal
+use Rattle.place.proofs.here.Goals.{After-find}
+
+-- what was found for the words from the place on
+found : (c : After-find) → site_of c.args.at c.find.result ≡ here_in (fitting_by c.args.lists) c.args.term.now c.args.at
+found c =
+    let a = c.args in
+    let find = fitting_by a.lists in
+    here-is a.lists.arities.now find _ a.at (c.find.ensures ∙ ap find (tail-part a.term.now a.at)) ∙ here-inside a.lists.arities.now find a.term.now a.at c.if-term-at.false
 
 pub returns-then-term-at : goal.returns-then-term-at
 returns-then-term-at c =
     let a = c.args in
-    here-outside a.arities.now (fitting_of a.arities.now a.standing.now a.own.now a.standing_index.now a.own_index.now) a.term.now a.at c.if-term-at.true
+    here-outside a.lists.arities.now (fitting_by a.lists) a.term.now a.at c.if-term-at.true
 
-pub returns-then-is_found : goal.returns-then-is_found
-returns-then-is_found c =
-    let a = c.args in
-    let find = fitting_of a.arities.now a.standing.now a.own.now a.standing_index.now a.own_index.now in
-    here-fits a.arities.now find _ _ c.find_place-rule.result (c.find_place-rule.ensures ∙ ap find (tail-part a.term.now a.at)) (sym c.is_found.ensures ∙ c.if-is_found.true)
-    ∙ here-inside a.arities.now find a.term.now a.at c.if-term-at.false
+pub returns-in_err-rule : goal.returns-in_err-rule
+returns-in_err-rule c = c.from_residual.ensures ∙ ap (site_of c.args.at) (sym c.in_err-rule.was) ∙ found (goal.at.returns-in_err-rule c).After-find
 
 pub returns : goal.returns
-returns c =
-    let a = c.args in
-    let find = fitting_of a.arities.now a.standing.now a.own.now a.standing_index.now a.own_index.now in
-    here-not a.arities.now find _ _ c.find_place-rule.result (c.find_place-rule.ensures ∙ ap find (tail-part a.term.now a.at)) (sym c.is_found.ensures ∙ c.if-is_found.false)
-    ∙ here-inside a.arities.now find a.term.now a.at c.if-term-at.false
+returns c = ap (site_of c.args.at) (sym c.in_ok-rule.was) ∙ found (goal.at.returns c).After-find

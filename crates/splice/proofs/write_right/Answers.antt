@@ -1,6 +1,5 @@
--- `splice::write_right` meets its contract. The invariant: what the first i words of the right side come to is written over
--- dst.
-use mathlib.Core.Path.{refl, sym, ap, ◌∙◌}
+-- `splice::write_right` meets its contract. The invariant: what the words of the right side so far come to is written over dst.
+use mathlib.Core.Path.{sym, ap, ◌∙◌}
 use mathlib.Core.List.{List}
 use Prim.Native.Nat.{ℕ, ◌+◌}
 use native.Mathlib.Omega.{arith}
@@ -11,65 +10,46 @@ use Rattle.splice.specs.Right.{new_len, word_len, new}
 use Rattle.splice.proofs.Laws.{length-new, new_len-more, new_len-le, write-more, written-fits, written-big}
 use Rattle.splice.proofs.write_right.Goals as goal
 
-pub new_len-n-requires : goal.new_len-n-requires
-new_len-n-requires c = record {
-  parts = c.requires.parts;
-  right_len_bound = c.requires.right_len_bound;
-}
-
-pub returns-then-dst-n : goal.returns-then-dst-n
-returns-then-dst-n c =
+pub returns-then-dst-new_len : goal.returns-then-dst-new_len
+returns-then-dst-new_len c =
     let args = c.args in
-    let big = written-big (length args.dst.now) c.new_len-n.result (new args.subject.now args.starts.now args.ends.now args.right.now) args.dst.now
-    (length-new args.subject.now args.starts.now args.ends.now args.right.now c.requires.parts ∙ sym c.new_len-n.ensures) c.if-dst-n.true in
+    let big = written-big (length args.dst.now) c.new_len.result (new args.subject.now args.bound.now args.right.now) args.dst.now
+    (length-new args.subject.now args.bound.now args.right.now c.requires.parts ∙ sym c.new_len.ensures) c.if-dst-new_len.true in
     record {
       value = sym big.0;
       dst_after = sym big.1;
     }
 
-pub loop-i-init : goal.loop-i-init
-loop-i-init c = (omega arith, (refl, (refl, refl)))
-
-pub put_word-at-requires : goal.put_word-at-requires
-put_word-at-requires c =
+pub put_word-at-requires-clause-w_in_bounds : goal.put_word-at-requires-clause-w_in_bounds
+put_word-at-requires-clause-w_in_bounds c =
     let args = c.args in
-    record {
-      parts = c.requires.parts;
-      w_in_bounds = omega (
-        arith,
-        new_len-more args.starts.now args.ends.now args.right.now c.loop-i.i c.loop-i-test.true,
-        new_len-le args.starts.now args.ends.now args.right.now (c.loop-i.i + 1),
-        c.new_len-n.ensures,
-      );
-    }
-
-pub loop-i-preserved : goal.loop-i-preserved
-loop-i-preserved c =
-    let args = c.args in
-    let more = c.loop-i-test.true in (
-      omega arith,
-      (
-        c.put_word-at.ensures.value ∙ ap (λ (k : ℕ). k + word_len args.starts.now args.ends.now (get_or args.right.now c.loop-i.i 0)) c.loop-i.invariant.1.0
-            ∙ sym (new_len-more args.starts.now args.ends.now args.right.now c.loop-i.i more),
-        (
-          c.put_word-at.ensures.dst_after
-              ∙ write-more args.subject.now args.starts.now args.ends.now args.right.now args.dst.now c.loop-i.dst c.loop-i.at c.loop-i.i c.requires.parts more c.loop-i.invariant.1.0 c.loop-i.invariant.1.1.0,
-          c.put_word-at.auto.dst ∙ c.loop-i.invariant.1.1.1,
-        ),
-      ),
+    omega (
+      arith,
+      new_len-more args.bound.now args.right.now c.loop-w.w-index c.loop-w-test.true,
+      new_len-le args.bound.now args.right.now (c.loop-w.w-index + 1),
     )
 
-pub shape_of-dst : goal.shape_of-dst
-shape_of-dst c = c.loop-i.invariant.1.1.1
+pub loop-w-preserved : goal.loop-w-preserved
+loop-w-preserved c =
+    let args = c.args in
+    let l = c.loop-w in
+    let more = c.loop-w-test.true in (
+      c.put_word-at.ensures.value ∙ ap (λ (k : ℕ). k + word_len args.bound.now (get_or args.right.now l.w-index 0)) l.invariant.0
+          ∙ sym (new_len-more args.bound.now args.right.now l.w-index more),
+      c.put_word-at.ensures.dst_after
+          ∙ write-more args.subject.now args.bound.now args.right.now args.dst.now l.dst l.at l.w-index c.requires.parts more l.invariant.0 l.invariant.1,
+      c.put_word-at.auto.dst ∙ l.invariant.2,
+    )
 
 pub returns : goal.returns
 returns c =
     let args = c.args in
-    let all = take_all c.loop-i.i args.right.now c.loop-i-test.false in
-    let count = c.loop-i.invariant.1.0 ∙ ap (new_len args.starts.now args.ends.now) all in
-    let fits = written-fits (length args.dst.now) c.loop-i.at (new args.subject.now args.starts.now args.ends.now args.right.now) args.dst.now
-    (length-new args.subject.now args.starts.now args.ends.now args.right.now c.requires.parts ∙ sym count) (omega (arith, count, c.new_len-n.ensures)) in
+    let l = c.loop-w in
+    let all = take_all l.w-index args.right.now c.loop-w-test.false in
+    let count = l.invariant.0 ∙ ap (new_len args.bound.now) all in
+    let fits = written-fits (length args.dst.now) l.at (new args.subject.now args.bound.now args.right.now) args.dst.now
+    (length-new args.subject.now args.bound.now args.right.now c.requires.parts ∙ sym count) (omega (arith, count)) in
     record {
       value = sym fits.0;
-      dst_after = c.loop-i.invariant.1.1.0 ∙ ap (λ (r : List ℕ). over (new args.subject.now args.starts.now args.ends.now r) args.dst.now) all ∙ sym fits.1;
+      dst_after = l.invariant.1 ∙ ap (λ (r : List ℕ). over (new args.subject.now args.bound.now r) args.dst.now) all ∙ sym fits.1;
     }

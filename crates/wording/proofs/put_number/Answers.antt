@@ -1,21 +1,19 @@
 -- `wording::put_number` meets its contract. The fewest digits that hold a number are as many as `places_of` says.
-use Rattle.std.proofs.Common.{length, ap, arith}
-use Rattle.wording.proofs.Laws.{number-most, number-text, same_text}
+use Rattle.std.proofs.Common.{ℕ, length, length-append, ap, ◌++◌, ◌∙◌, arith, rules}
+use Rattle.wording.proofs.Laws.{number-text}
 use Rattle.wording.proofs.put_number.Goals as goal
 
 pub put_text-requires : goal.put_text-requires
-put_text-requires c =
+put_text-requires g c =
     let d = c.decimal-k in
-    let e = number-text c.args.n d.result _ (omega arith) d.ensures.len d.ensures.digits in
-    omega (arith, ap length e, number-most c.args.n)
+    let t = number-text c.args.n c.from.result d.result _ (omega arith) c.from.ensures d.ensures.len d.ensures.digits in
+    (search rules, omega (arith, t.1))
 
-pub returns-clause-wrote : goal.returns-clause-wrote
-returns-clause-wrote c =
+pub returns : goal.returns
+returns g c =
     let d = c.decimal-k in
-    same_text (number-text c.args.n d.result _ (omega arith) d.ensures.len d.ensures.digits) c.put_text.ensures
-
-pub returns-clause-upper_bound : goal.returns-clause-upper_bound
-returns-clause-upper_bound c =
-    let d = c.decimal-k in
-    let e = number-text c.args.n d.result _ (omega arith) d.ensures.len d.ensures.digits in
-    omega (arith, c.put_text.ensures.behind, ap length e, number-most c.args.n)
+    let t = number-text c.args.n c.from.result d.result _ (omega arith) c.from.ensures d.ensures.len d.ensures.digits in
+    record {
+      appended = c.put_text.ensures ∙ ap (λ t. c.args.out.now.items ++ t) t.0;
+      upper_bound = omega (arith, t.1, ap length c.put_text.ensures, length-append {A = ℕ});
+    }

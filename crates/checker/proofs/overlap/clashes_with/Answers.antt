@@ -1,16 +1,14 @@
--- `checker::overlap::clashes_with` meets its contract. The loop's invariant: a clash is one with a rule from `i` on.
-use mathlib.Core.Path.{◌∙◌, refl, sym}
-use Rattle.checker.proofs.overlap.Laws.{any_out, any-yes, any-no}
+-- `checker::overlap::clashes_with` meets its contract.
+use mathlib.Core.Path.{◌∙◌}
+use Rattle.std.proofs.Common.{rules, tests}
+use Rattle.std.proofs.lemmas.Iterator.{YieldsList-from_slice}
+use Rattle.std.proofs.lemmas.Iterator.Search.{any_from_yields_List}
+use Rattle.checker.specs.Overlap.{clash_at}
+use Rattle.checker.proofs.overlap.Laws.{any-as}
 use Rattle.checker.proofs.overlap.clashes_with.Goals as goal
 
-pub loop-i-init : goal.loop-i-init
-loop-i-init c = refl
-
-pub returns-then-clash : goal.returns-then-clash
-returns-then-clash c = sym (c.loop-i.invariant ∙ any-yes _ _ _ _ _ c.loop-i-test.true _ c.clash.ensures c.if-clash.true)
-
-pub loop-i-preserved : goal.loop-i-preserved
-loop-i-preserved c = c.loop-i.invariant ∙ any-no _ _ _ _ _ c.loop-i-test.true _ c.clash.ensures c.if-clash.false
-
 pub returns : goal.returns
-returns c = sym (c.loop-i.invariant ∙ any_out _ _ _ _ _ c.loop-i-test.false)
+returns c =
+    let a = c.args in
+    any_from_yields_List (λ o. clash_at a.program.now a.arities.now o a.second) _ _ _ c.any.ensures.ran (YieldsList-from_slice a.before.now cc) (λ x b q k. search (rules, tests))
+    ∙ any-as a.program.now a.arities.now a.second a.before.now

@@ -1,28 +1,32 @@
--- `checker::overlap::patterns_meet` meets its contract. The loop's invariant: the two patterns meet where those from `i` and `j` on do.
-use mathlib.Core.Path.{◌∙◌, refl, sym}
-use Rattle.checker.proofs.overlap.Laws.{heads-out, heads-out2, heads-var, heads-var2, heads-differ, heads-base, heads-succ}
+-- `checker::overlap::patterns_meet` meets its contract. The loop's invariant: the two patterns meet where what is left of them does.
+use mathlib.Core.Path.{sym, ◌∙◌}
+use Rattle.std.proofs.lemmas.Slice.Zip.{Zip-more, either_empty_from_Zip}
+use Rattle.checker.proofs.overlap.Laws.{heads-var, heads-var2, heads-differ, heads-base, heads-succ, heads-out}
 use Rattle.checker.proofs.overlap.patterns_meet.Goals as goal
+use Rattle.checker.proofs.overlap.patterns_meet.Goals.{then-a-eq-VARIABLE-via-then-a-eq-VARIABLE, then-a-eq-VARIABLE-via-else-a-eq-VARIABLE+then-b-eq-VARIABLE}
 
-pub loop-i-init : goal.loop-i-init
-loop-i-init c = refl
-
-pub returns-then-bytes-j : goal.returns-then-bytes-j
-returns-then-bytes-j c = sym (c.loop-i.invariant ∙ heads-out2 _ _ _ c.loop-i-test.true c.if-bytes-j.true)
-
-pub returns-then-a-eq20 : goal.returns-then-a-eq20
-returns-then-a-eq20 c = sym (c.loop-i.invariant ∙ heads-var _ _ _ c.loop-i-test.true c.if-bytes-j.false c.if-a-eq20.true)
-
-pub returns-then-b-eq20 : goal.returns-then-b-eq20
-returns-then-b-eq20 c = sym (c.loop-i.invariant ∙ heads-var2 _ _ _ c.loop-i-test.true c.if-bytes-j.false c.if-a-eq20.false c.if-b-eq20.true)
+pub returns-then-a-eq-VARIABLE : goal.returns-then-a-eq-VARIABLE
+returns-then-a-eq-VARIABLE c =
+    let z = Zip-more c.loop-a.a-iterator c.next.new.self _ _ c.in-Some.is c.next.ensures.steps in
+    elim c.then-a-eq-VARIABLE.branch [
+      | then-a-eq-VARIABLE-via-then-a-eq-VARIABLE w ↦ sym (c.loop-a.invariant ∙ heads-var _ _ _ _ _ _ z.0 z.1 w.if-a-eq-VARIABLE.true)
+      | then-a-eq-VARIABLE-via-else-a-eq-VARIABLE+then-b-eq-VARIABLE w ↦ sym (c.loop-a.invariant ∙ heads-var2 _ _ _ _ _ _ z.0 z.1 w.if-a-eq-VARIABLE.false w.if-b-eq-VARIABLE.true)
+    ]
 
 pub returns-then-a-b : goal.returns-then-a-b
-returns-then-a-b c = sym (c.loop-i.invariant ∙ heads-differ _ _ _ c.loop-i-test.true c.if-bytes-j.false c.if-a-eq20.false c.if-b-eq20.false c.if-a-b.true)
+returns-then-a-b c =
+    let z = Zip-more c.loop-a.a-iterator c.next.new.self _ _ c.in-Some.is c.next.ensures.steps in
+    sym (c.loop-a.invariant ∙ heads-differ _ _ _ _ _ _ z.0 z.1 c.if-a-eq-VARIABLE.false c.if-b-eq-VARIABLE.false c.if-a-b.true)
 
-pub returns-then-a-ne17 : goal.returns-then-a-ne17
-returns-then-a-ne17 c = sym (c.loop-i.invariant ∙ heads-base _ _ _ c.loop-i-test.true c.if-bytes-j.false c.if-a-eq20.false c.if-b-eq20.false c.if-a-b.false c.if-a-ne17.true)
+pub returns-then-a-ne-SUCC : goal.returns-then-a-ne-SUCC
+returns-then-a-ne-SUCC c =
+    let z = Zip-more c.loop-a.a-iterator c.next.new.self _ _ c.in-Some.is c.next.ensures.steps in
+    sym (c.loop-a.invariant ∙ heads-base _ _ _ _ _ _ z.0 z.1 c.if-a-eq-VARIABLE.false c.if-b-eq-VARIABLE.false c.if-a-b.false c.if-a-ne-SUCC.true)
 
-pub loop-i-preserved : goal.loop-i-preserved
-loop-i-preserved c = c.loop-i.invariant ∙ heads-succ _ _ _ c.loop-i-test.true c.if-bytes-j.false c.if-a-eq20.false c.if-b-eq20.false c.if-a-b.false c.if-a-ne17.false
+pub loop-a-preserved : goal.loop-a-preserved
+loop-a-preserved c =
+    let z = Zip-more c.loop-a.a-iterator c.next.new.self _ _ c.in-Some.is c.next.ensures.steps in
+    c.loop-a.invariant ∙ heads-succ _ _ _ _ _ _ z.0 z.1 c.if-a-eq-VARIABLE.false c.if-b-eq-VARIABLE.false c.if-a-b.false c.if-a-ne-SUCC.false
 
 pub returns : goal.returns
-returns c = sym (c.loop-i.invariant ∙ heads-out c.args.bytes.now c.loop-i.i c.loop-i.j c.loop-i-test.false)
+returns c = sym (c.loop-a.invariant ∙ heads-out _ _ (either_empty_from_Zip c.loop-a.a-iterator c.next.new.self _ c.in-None.is c.next.ensures.steps))

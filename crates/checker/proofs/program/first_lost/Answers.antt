@@ -1,13 +1,13 @@
--- `checker::program::first_lost` meets its contract. The loop's invariant: the functions before `f` have a rule.
-use mathlib.Core.Path.{◌∙◌, sym}
-use Rattle.checker.proofs.program.Lost.{lost-out, lost-here, lost-later}
+-- `checker::program::first_lost` meets its contract.
+use mathlib.Core.Path.{◌∙◌}
+use mathlib.Core.Bool.{not}
+use Rattle.std.proofs.Common.{rules, tests}
+use Rattle.std.proofs.lemmas.Iterator.{YieldsList-from_slice}
+use Rattle.std.proofs.lemmas.Iterator.Search.{position_from_yields_List}
+use Rattle.checker.proofs.program.Lost.{position-lost}
 use Rattle.checker.proofs.program.first_lost.Goals as goal
 
-pub returns-then-not-ruled-f : goal.returns-then-not-ruled-f
-returns-then-not-ruled-f c = sym (c.loop-f.invariant ∙ lost-here _ _ c.loop-f-test.true c.if-not-ruled-f.true)
-
-pub loop-f-preserved : goal.loop-f-preserved
-loop-f-preserved c = c.loop-f.invariant ∙ lost-later _ _ c.loop-f-test.true c.if-not-ruled-f.false
-
 pub returns : goal.returns
-returns c = sym (c.loop-f.invariant ∙ lost-out _ _ c.loop-f-test.false)
+returns c =
+    let a = c.args.ruled.now in
+    position_from_yields_List not _ _ _ c.position.ensures.ran (YieldsList-from_slice a cc) (λ x b q k. search (rules, tests)) ∙ position-lost a

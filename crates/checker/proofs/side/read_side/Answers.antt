@@ -1,51 +1,41 @@
 -- `checker::side::read_side` meets its contract. The loop's invariant: the side's answer is that of what is still owed. The measure is the bytes left.
 use Prim.Native.Nat.{◌+◌, ◌<◌, ◌≤◌}
-use mathlib.Core.Path.{◌≡◌, refl, sym, ◌∙◌}
+use mathlib.Core.Path.{◌≡◌, sym, ap, ◌∙◌}
 use native.Mathlib.Omega.{arith}
+use Rattle.std.specs.Prelude.{Err}
 use Rattle.record.proofs.Laws.{record-fits}
 use Rattle.checker.proofs.side.Scan.{most-small, scan-none, scan-ends, scan-refused, scan-big, scan-on}
 use Rattle.checker.proofs.side.read_side.Goals as goal
 
-pub loop-due-init : goal.loop-due-init
-loop-due-init c = (refl, omega arith, omega arith)
+pub returns-in_default : goal.returns-in_default
+returns-in_default c = ap Err c.at.ensures ∙ sym (c.loop-due.invariant.0 ∙ scan-ends _ _ _ _ _ _ _ _ c.loop-due-test.true c.in_default.ensures)
 
-pub returns-then-r-eq0 : goal.returns-then-r-eq0
-returns-then-r-eq0 c =
-    c.refused_side.ensures
-    ∙ sym (c.loop-due.invariant.0 ∙ scan-ends _ _ _ _ _ _ _ _ c.loop-due-test.true _ c.record_at-r.ensures c.if-r-eq0.true)
+pub returns-in-Err : goal.returns-in-Err
+returns-in-Err c =
+    ap Err c.at-in-Err.ensures
+    ∙ sym (c.loop-due.invariant.0 ∙ scan-refused _ _ _ _ _ _ _ _ c.loop-due-test.true _ c.in-Some.ensures _ (c.in-Err.ensures.by_index _))
 
-pub overflow_add-next : goal.overflow_add-next
-overflow_add-next c = omega (arith, record-fits _ _ _ c.record_at-r.ensures)
-
-pub overflow_add-over : goal.overflow_add-over
-overflow_add-over c =
-    omega (arith, c.step_over-s.ensures.small_step.1)
-
-pub returns-then-refusal-ne0 : goal.returns-then-refusal-ne0
-returns-then-refusal-ne0 c =
-    c.refused_side-then-refusal-ne0.ensures
+pub returns-then-most-count : goal.returns-then-most-count
+returns-then-most-count c =
+    let big : c.most.result < c.loop-due.count + c.in-Ok.step.words = c.if-most-count.true in
+    ap Err c.at-then-most-count.ensures
     ∙ sym (c.loop-due.invariant.0
-    ∙ scan-refused _ _ _ _ _ _ _ _ c.loop-due-test.true _ c.record_at-r.ensures c.if-r-eq0.false _ (c.step_over-s.ensures.by_index _) c.if-refusal-ne0.true)
+    ∙ scan-big _ _ _ _ _ _ _ _ c.loop-due-test.true _ c.in-Some.ensures _ (c.in-Ok.ensures.by_index _) (rw c.most.ensures at big))
 
-pub returns-then-over : goal.returns-then-over
-returns-then-over c =
-    let big : c.most.result < c.loop-due.count + c.step_over-s.result.words = c.if-over.true in
-    c.refused_side-then-over.ensures
-    ∙ sym (c.loop-due.invariant.0
-    ∙ scan-big _ _ _ _ _ _ _ _ c.loop-due-test.true _ c.record_at-r.ensures c.if-r-eq0.false _ (c.step_over-s.ensures.by_index _) c.if-refusal-ne0.false (rw c.most.ensures at big))
+pub overflow_add-at : goal.overflow_add-at
+overflow_add-at c = omega (arith, record-fits _ _ _ (sym c.in-Some.ensures))
 
 pub loop-due-smaller : goal.loop-due-smaller
-loop-due-smaller c =
-    omega (arith, record-fits _ _ _ c.record_at-r.ensures)
+loop-due-smaller c = omega (arith, record-fits _ _ _ (sym c.in-Some.ensures))
 
 pub loop-due-preserved : goal.loop-due-preserved
 loop-due-preserved c =
-    let small : c.loop-due.count + c.step_over-s.result.words ≤ c.most.result = c.if-over.false in
-    let u = rw c.most.ensures at small in (
-      c.loop-due.invariant.0
-          ∙ scan-on _ _ _ _ _ _ _ _ c.loop-due-test.true _ c.record_at-r.ensures c.if-r-eq0.false _ (c.step_over-s.ensures.by_index _) c.if-refusal-ne0.false u,
+    let small : c.loop-due.count + c.in-Ok.step.words ≤ c.most.result = c.if-most-count.false in
+    let u = rw c.most.ensures at small in
+    let k = c.in-Ok.ensures.small_step in (
+      c.loop-due.invariant.0 ∙ scan-on _ _ _ _ _ _ _ _ c.loop-due-test.true _ c.in-Some.ensures _ (c.in-Ok.ensures.by_index _) u,
       omega (arith, u, most-small c.args.stand),
-      omega (arith, c.step_over-s.ensures.small_step.0),
+      omega (arith, k),
     )
 
 pub returns : goal.returns

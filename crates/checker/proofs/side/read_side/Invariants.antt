@@ -7,7 +7,7 @@ use Rattle.checker.proofs.side.read_side.Given as goal
 
 abbrev pub invariant-loop-due : goal.invariant-loop-due
 invariant-loop-due l =
-    (scan_from l.exceptions l.arities l.bytes l.stand l.initial.seen l.owed l.base l.start ≡ scan_from l.exceptions l.arities l.bytes l.stand l.seen l.due l.count l.at) × (l.count ≤ 512) × (l.due ≤ 256 + 256 * l.count)
+    (scan_from l.declared.exceptions l.declared.arities.now l.bytes l.stand l.initial.seen l.owed l.base l.start ≡ scan_from l.declared.exceptions l.declared.arities.now l.bytes l.stand l.seen l.due l.count l.at) × (l.count ≤ 512) × (l.due ≤ 256 + 256 * l.count)
 
 abbrev pub decreases-loop-due : goal.decreases-loop-due
 decreases-loop-due l = length l.bytes - l.at

@@ -1,43 +1,25 @@
 -- `fitting::fit_all` meets its contract. The loop's invariant: all fit where those from number i on fit, after the bindings so far.
-use mathlib.Core.Path.{◌≡◌, refl, sym, ap, ◌∙◌}
-use Prim.Native.Nat.{ℕ, ◌+◌, ◌-◌}
-use native.Mathlib.Nat.{sub-zero}
+use mathlib.Core.Path.{sym, ◌∙◌}
+use Prim.Native.Nat.{◌<◌}
 use native.Mathlib.Omega.{arith}
-use lib.ListN.{length, set, length-set}
-use lib.Seq.{set_out}
-use borrow.Author.Tests.{not-true, not-false}
-use Rattle.evaluator.specs.Values.{none, nones}
-use Rattle.evaluator.specs.Fitting.{fits_of}
-use Rattle.evaluator.proofs.Laws.{any-default}
+use Rattle.std.proofs.lemmas.List.{length-take, get_or-take}
+use Rattle.evaluator.specs.Values.{none}
 use Rattle.evaluator.proofs.Fits.{fits_more, fits-stop, fits-end}
 use Rattle.evaluator.proofs.fitting.fit_all.Goals as goal
-use Rattle.evaluator.proofs.fitting.fit_all.Goals.{then-x-lt8, else-x-lt8}
 
-pub loop-i-init : goal.loop-i-init
-loop-i-init c = let a = c.args in (omega arith, refl, ap (λ (m : ℕ). fits_of a.rules.now m a.at 0 a.vals nones) (sym (sub-zero a.n)))
-
-pub returns-then-not-f : goal.returns-then-not-f
-returns-then-not-f c =
+pub returns-in_err-f : goal.returns-in_err-f
+returns-in_err-f c =
     let a = c.args in
-    c.misfit_of.ensures
-    ∙ sym (c.loop-i.invariant.2 ∙ fits-stop a.rules.now a.n c.loop-i.a c.loop-i.i a.vals c.loop-i.b
-    c.loop-i-test.true c.loop-i.invariant.1
-    (any-default a.vals _ _ none (omega (arith, c))) c.fit-f.ensures (not-true _ c.if-not-f.true))
+    let lt : c.loop-v.v-index < a.n = omega (arith, length-take a.n a.vals) in
+    rw c.from_residual.ensures
+    (sym (c.loop-v.invariant ∙ fits-stop _ _ _ _ _ _ lt (get_or-take a.n a.vals _ none lt) c.fit.ensures c.in_err-f.was))
 
-pub loop-i-preserved : goal.loop-i-preserved
-loop-i-preserved c =
+pub loop-v-preserved : goal.loop-v-preserved
+loop-v-preserved c =
     let a = c.args in
-    let l = c.loop-i in
-    let f = c.fit-f.result in
-    let more = fits_more a.rules.now a.n l.a l.i a.vals l.b
-    c.loop-i-test.true l.invariant.1
-    (any-default a.vals _ _ none (omega (arith, c))) c.fit-f.ensures (not-false _ c.if-not-f.false) in
-    let e : c.if-x-lt8.b ≡ set l.b f.slot f.rest =
-    elim c.if-x-lt8.branch [ then-x-lt8 w ↦ w.b-is | else-x-lt8 w ↦ w.b-is ∙ sym (set_out l.b f.slot f.rest (omega (arith, w.if-x-lt8.false, l.invariant.1))) ] in (
-      omega arith,
-      ap length e ∙ length-set l.b f.slot f.rest ∙ l.invariant.1,
-      l.invariant.2 ∙ more ∙ ap (fits_of a.rules.now (a.n - (l.i + 1)) f.at (l.i + 1) a.vals) (sym e),
-    )
+    let lt : c.loop-v.v-index < a.n = omega (arith, length-take a.n a.vals) in
+    rw c.bind.ensures
+    (c.loop-v.invariant ∙ fits_more _ _ _ _ _ _ lt (get_or-take a.n a.vals _ none lt) c.fit.ensures c.in_ok-f.was)
 
 pub returns : goal.returns
-returns c = sym (c.loop-i.invariant.2 ∙ fits-end _ _ _ _ _ _ c.loop-i-test.false)
+returns c = sym (c.loop-v.invariant ∙ fits-end _ _ _ _ _ _ (omega (arith, length-take c.args.n c.args.vals)))

@@ -1,12 +1,7 @@
--- `exceptions::raise_rules` meets its contract. The invariant: the rules of the numbers below e are written.
-use Prim.Native.Nat.{◌-◌, ◌≤◌}
+-- `exceptions::raise_rules` meets its contract.
 use Rattle.theory.specs.Translation.{raise_rule}
-use Rattle.generated.specs.Wrote.{Wrote}
-use Rattle.generated.proofs.Writes.{below}
 use Rattle.generated.proofs.exceptions.raise_rules.Given as goal
 
-abbrev pub invariant-loop-e : goal.invariant-loop-e
-invariant-loop-e l = (l.e ≤ l.n) × Wrote (below raise_rule l.e) l.at l.initial.dst l.dst l.next
-
-abbrev pub decreases-loop-e : goal.decreases-loop-e
-decreases-loop-e l = l.n - l.e
+-- the rules that are written
+abbrev pub ghost-put_each : goal.ghost-put_each
+ghost-put_each a = raise_rule

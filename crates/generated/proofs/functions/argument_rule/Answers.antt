@@ -1,71 +1,58 @@
 -- `functions::argument_rule` meets its contract: the counts, the left side, the guard, the next auxiliary.
-use mathlib.Core.Path.{sym, ap}
+use mathlib.Core.Path.{sym}
 use mathlib.Core.List.{List, [], ◌∷◌, ◌++◌}
 use Prim.Native.Nat.{ℕ, ◌+◌}
-use native.Mathlib.Omega.{arith}
 use Rattle.theory.specs.Tree.{node}
 use Rattle.theory.specs.Words.{words}
 use Rattle.theory.specs.Translation.{variables, aux}
-use Rattle.generated.specs.Wrote.{Room, Wrote}
+use Rattle.generated.specs.Wrote.{Room}
+use Rattle.generated.specs.declared.functions.Call.{Call}
 use Rattle.generated.proofs.Writes.{wrote_as, wrote_then, room_as, room-first, room-then}
 use Rattle.generated.proofs.RuleWords.{arg-words}
 use Rattle.generated.proofs.functions.argument_rule.Goals as goal
-use Rattle.generated.proofs.functions.argument_rule.Goals.{After-put_call-right, After-put_words-left, Start}
+use Rattle.generated.proofs.functions.argument_rule.Goals.{After-put, After-put_call}
 
-abbrev over : ℕ → ℕ → List ℕ
-over w n = words (node w (variables 0 n))
-
-abbrev counts : ℕ → List ℕ
-counts n = (n + 1) ∷ (n + 4) ∷ []
+-- auxiliary j over the variables; the guard
+abbrev side : Call → ℕ → List ℕ
+side f j = words (node (aux f.k j) (variables 0 f.n))
 
 abbrev guard : ℕ → List ℕ
 guard i = 7 ∷ 9 ∷ (64 + i) ∷ []
 
-abbrev right : ℕ → ℕ → ℕ → List ℕ
-right k n i = guard i ++ over (aux k (i + 2)) n
+abbrev right : Call → ℕ → List ℕ
+right f i = guard i ++ side f (i + 2)
 
-all : (c : Start) → let a = c.args in Room (counts a.n ++ (over (aux a.k (a.i + 1)) a.n ++ right a.k a.n a.i)) a.at a.dst.now
-all c =
-    room_as c.args.at c.args.dst.now (arg-words c.args.k c.args.n c.args.i) c.requires.room
-
-sides : (c : After-put_words-left) (all : let a = c.args in Room (counts a.n ++ (over (aux a.k (a.i + 1)) a.n ++ right a.k a.n a.i)) a.at a.dst.now) → let a = c.args in Room (over (aux a.k (a.i + 1)) a.n ++ right a.k a.n a.i) c.put_words-left.result c.put_words-left.new.dst
-sides c all =
+-- there is room for both sides, and then for the right side
+sides : (c : After-put) → let a = c.args in Room (side a.call (a.i + 1) ++ right a.call a.i) c.put.new.self
+sides c =
     let a = c.args in
-    room-then (counts a.n) (over (aux a.k (a.i + 1)) a.n ++ right a.k a.n a.i) a.at c.put_words-left.result a.dst.now c.put_words-left.new.dst c.put_words-left.ensures all
+    let f = a.call in
+    room-then ((f.n + 1) ∷ (f.n + 4) ∷ []) (side f (a.i + 1) ++ right f a.i) c.put.ensures (room_as a.out.now (arg-words f.k f.n a.i) c.requires.room)
 
-left : (c : After-put_call-right) → let a = c.args in Wrote (over (aux a.k (a.i + 1)) a.n) c.put_words-left.result c.put_words-left.new.dst c.put_call-right.new.dst c.put_call-right.result
-left c =
-    let a = c.args in
-    wrote_as (ap (λ (w : ℕ). over w a.n) c.symbol.ensures) c.put_call-right.ensures
-
-behind : (c : After-put_call-right) (sides : let a = c.args in Room (over (aux a.k (a.i + 1)) a.n ++ right a.k a.n a.i) c.put_words-left.result c.put_words-left.new.dst) → let a = c.args in Room (right a.k a.n a.i) c.put_call-right.result c.put_call-right.new.dst
+behind : (c : After-put_call) (sides : let a = c.args in Room (side a.call (a.i + 1) ++ right a.call a.i) c.put.new.self) → let a = c.args in Room (right a.call a.i) c.put_call.new.out
 behind c sides =
     let a = c.args in
-    room-then (over (aux a.k (a.i + 1)) a.n) (right a.k a.n a.i) c.put_words-left.result c.put_call-right.result c.put_words-left.new.dst c.put_call-right.new.dst (left c) sides
+    room-then (side a.call (a.i + 1)) (right a.call a.i) c.put_call.ensures sides
 
-pub put_call-right-requires : goal.put_call-right-requires
-put_call-right-requires c =
+pub put_call-requires-clause-room : goal.put_call-requires-clause-room
+put_call-requires-clause-room c =
     let a = c.args in
-    record {
-      n_bound = omega arith;
-      room = room-first (over (aux a.k (a.i + 1)) a.n) (right a.k a.n a.i) c.put_words-left.result c.put_words-left.new.dst (sides (goal.at.put_call-right-requires c).After-put_words-left (all (goal.at.put_call-right-requires c).Start));
-    }
+    room-first (side a.call (a.i + 1)) (right a.call a.i) c.put.new.self (sides (goal.at.put_call-requires-clause-room c).After-put)
 
-pub put_words-last-requires : goal.put_words-last-requires
-put_words-last-requires c =
+pub put-requires-2 : goal.put-requires-2
+put-requires-2 c =
     let a = c.args in
-    room-first (guard a.i) (over (aux a.k (a.i + 2)) a.n) c.put_call-right.result c.put_call-right.new.dst (behind (goal.at.put_words-last-requires c).After-put_call-right (sides (goal.at.put_words-last-requires c).After-put_words-left (all (goal.at.put_words-last-requires c).Start)))
+    let here = goal.at.put-requires-2 c in
+    room-first (guard a.i) (side a.call (a.i + 2)) c.put_call.new.out (behind here.After-put_call (sides here.After-put))
 
-pub put_call-requires : goal.put_call-requires
-put_call-requires c =
+pub put_call-requires-2-clause-room : goal.put_call-requires-2-clause-room
+put_call-requires-2-clause-room c =
     let a = c.args in
-    record {
-      n_bound = c.requires.k_bound.1;
-      room = room-then (guard a.i) (over (aux a.k (a.i + 2)) a.n) c.put_call-right.result c.put_words-last.result c.put_call-right.new.dst c.put_words-last.new.dst c.put_words-last.ensures (behind (goal.at.put_call-requires c).After-put_call-right (sides (goal.at.put_call-requires c).After-put_words-left (all (goal.at.put_call-requires c).Start)));
-    }
+    let here = goal.at.put_call-requires-2-clause-room c in
+    room-then (guard a.i) (side a.call (a.i + 2)) c.put-2.ensures (behind here.After-put_call (sides here.After-put))
 
 pub returns : goal.returns
 returns c =
     let a = c.args in
-    wrote_as (sym (arg-words a.k a.n a.i))
-    (wrote_then c.put_words-left.ensures (wrote_then (left (goal.at.returns c).After-put_call-right) (wrote_then c.put_words-last.ensures (wrote_as (ap (λ (w : ℕ). over w a.n) c.symbol-2.ensures) c.put_call.ensures))))
+    wrote_as (sym (arg-words a.call.k a.call.n a.i))
+    (wrote_then c.put.ensures (wrote_then c.put_call.ensures (wrote_then c.put-2.ensures c.put_call-2.ensures)))

@@ -1,12 +1,8 @@
--- `functions::argument_rules` meets its contract. The invariant: the rules of the numbers below i are written.
-use Prim.Native.Nat.{◌-◌, ◌≤◌}
+-- `functions::argument_rules` meets its contract.
 use Rattle.theory.specs.Translation.{arg_rule}
-use Rattle.generated.specs.Wrote.{Wrote}
-use Rattle.generated.proofs.Writes.{below}
+use Rattle.generated.specs.contracts.functions.fn.argument_rules.put_each as closure
 use Rattle.generated.proofs.functions.argument_rules.Given as goal
 
-abbrev pub invariant-loop-i : goal.invariant-loop-i
-invariant-loop-i l = (l.i ≤ l.n) × Wrote (below (arg_rule l.k l.n) l.i) l.at l.initial.dst l.dst l.next
-
-abbrev pub decreases-loop-i : goal.decreases-loop-i
-decreases-loop-i l = l.n - l.i
+-- the rules that are written
+abbrev pub ghost-put_each : goal.ghost-put_each
+ghost-put_each a = let call = (closure.captures a.rules).call in arg_rule call.k call.n

@@ -1,26 +1,27 @@
 -- `functions::put_call` meets its contract: the words are the first n + 1 of five.
 use mathlib.Core.Path.{◌≡◌, sym, ap, ◌∙◌}
 use mathlib.Core.List.{[], ◌∷◌}
-use Prim.Native.Nat.{ℕ, ◌+◌, ◌-◌}
-use native.Mathlib.Omega.{arith}
+use Prim.Native.Nat.{ℕ, ◌+◌}
 use lib.ListN.{take}
 use Rattle.theory.specs.Tree.{node}
 use Rattle.theory.specs.Words.{words}
-use Rattle.theory.specs.Translation.{variables}
+use Rattle.theory.specs.Translation.{aux, variables}
 use Rattle.generated.proofs.Writes.{wrote_as, room_as}
 use Rattle.generated.proofs.RuleWords.{call-words}
 use Rattle.generated.proofs.functions.put_call.Goals as goal
-use Rattle.generated.proofs.functions.put_call.Goals.{Start}
+use Rattle.generated.proofs.functions.put_call.Goals.{After-from}
 
-first : (c : Start) → take (c.args.n + 1 - 0) (c.args.w ∷ 64 ∷ 65 ∷ 66 ∷ 67 ∷ []) ≡ words (node c.args.w (variables 0 c.args.n))
+first : (c : After-from) → let f = c.args.call in take (c.from.result + 1) (c.symbol.result ∷ 64 ∷ 65 ∷ 66 ∷ 67 ∷ []) ≡ words (node (aux f.k c.args.j) (variables 0 f.n))
 first c =
-    let e : c.args.n + 1 - 0 ≡ c.args.n + 1 = omega arith in
-    ap (λ (k : ℕ). take k (c.args.w ∷ 64 ∷ 65 ∷ 66 ∷ 67 ∷ [])) e ∙ call-words c.args.w c.args.n c.requires.n_bound
+    let f = c.args.call in
+    ap (λ (k : ℕ). take (k + 1) (c.symbol.result ∷ 64 ∷ 65 ∷ 66 ∷ 67 ∷ [])) c.from.ensures
+    ∙ call-words c.symbol.result f.n f.n_bound
+    ∙ ap (λ (w : ℕ). words (node w (variables 0 f.n))) c.symbol.ensures
 
-pub put_words-requires : goal.put_words-requires
-put_words-requires c =
-    room_as c.args.at c.args.dst.now (sym (first (goal.at.put_words-requires c).Start)) c.requires.room
+pub put-requires : goal.put-requires
+put-requires c =
+    room_as c.args.out.now (sym (first (goal.at.put-requires c).After-from)) c.requires.room
 
 pub returns : goal.returns
 returns c =
-    wrote_as (first (goal.at.returns c).Start) c.put_words.ensures
+    wrote_as (first (goal.at.returns c).After-from) c.put.ensures

@@ -1,48 +1,40 @@
--- `lists::write_list` meets its contract: an accepted program is what the translator asks for.
-use Rattle.std.proofs.Common.{◌≡◌, ℕ, ◌-◌, take, ap, arith}
-use Rattle.checker.proofs.Callers.{within}
-use Rattle.own_lists.proofs.Given.{given}
+-- `lists::write_list` meets its contract.
+use Rattle.std.proofs.Common.{◌≡◌, ℕ, List, Bor, sym, ap, subst, ◌∙◌}
+use Rattle.translator.specs.Accepted.{OfOwnList}
+use Rattle.translator.specs.Answered.{answered, filled}
 use Rattle.own_lists.proofs.Answers.{answer-refused, written-refused, answer-count, answer-short, written_read}
 use Rattle.own_lists.proofs.lists.write_list.Goals as goal
+use Rattle.own_lists.proofs.lists.write_list.Goals.{After-own_list}
 
-pub returns-then-c-ne0-clause-value : goal.returns-then-c-ne0-clause-value
-returns-then-c-ne0-clause-value c = answer-refused _ c.check_program-c.result c.check_program-c.ensures c.if-c-ne0.true c.args.dst.now
+-- what is answered and left is so of the program's own list
+said : (c : After-own_list) → OfOwnList c.args.program.now (λ ws. c.own_list.result ≡ answered ws c.args.dst.now)
+said c =
+    subst (λ (p : List ℕ). OfOwnList p (λ ws. c.own_list.result ≡ answered ws c.args.dst.now)) (ap (λ (b : Bor (List ℕ)). b.now) c.source_of.ensures.same_program) c.own_list.ensures.of_own_list
 
-pub returns-then-c-ne0-clause-dst_after : goal.returns-then-c-ne0-clause-dst_after
-returns-then-c-ne0-clause-dst_after c = written-refused _ c.check_program-c.result c.check_program-c.ensures c.if-c-ne0.true c.args.dst.now
+left : (c : After-own_list) → OfOwnList c.args.program.now (λ ws. c.own_list.new.dst ≡ filled ws c.args.dst.now)
+left c =
+    subst (λ (p : List ℕ). OfOwnList p (λ ws. c.own_list.new.dst ≡ filled ws c.args.dst.now)) (ap (λ (b : Bor (List ℕ)). b.now) c.source_of.ensures.same_program) c.own_list.ensures.of_own_list_2
 
-pub slice_bounds-used-end : goal.slice_bounds-used-end
-slice_bounds-used-end c =
-    let w = within _ _ c.check_program-c.ensures in
-    omega (arith, w.2, w.3)
+pub returns-in_default : goal.returns-in_default
+returns-in_default c =
+    let e = sym c.in_default.is ∙ c.check_program.ensures.value in
+    record {
+      value = answer-refused _ c.in_default.field-0 e c.args.dst.now;
+      dst_after = written-refused _ c.in_default.field-0 e c.args.dst.now;
+    }
 
-pub own_list-requires : goal.own_list-requires
-own_list-requires c =
-    let k = c.check_program-c in
-    let none : k.result.number ≡ 0 = omega (arith, c.if-c-ne0.false) in
-    let rules : k.result.rules - 0 ≡ k.result.rules = omega arith in
-    given _ k.result k.ensures none _ (ap (λ (n : ℕ). take n k.result.openings) rules)
+pub returns-in-Some : goal.returns-in-Some
+returns-in-Some c =
+    let e = sym c.in-Ok.is ∙ c.check_program.ensures.value in
+    record {
+      value = answer-count _ c.in-Ok.checked e c.args.dst.now _ (said (goal.at.returns-in-Some c).After-own_list) _ c.in-Some.is;
+      dst_after = written_read _ c.in-Ok.checked e c.args.dst.now _ (left (goal.at.returns-in-Some c).After-own_list);
+    }
 
-pub returns-in-Count-clause-value : goal.returns-in-Count-clause-value
-returns-in-Count-clause-value c =
-    let k = c.check_program-c in
-    let none : k.result.number ≡ 0 = omega (arith, c.if-c-ne0.false) in
-    answer-count _ k.result k.ensures none c.args.dst.now _ c.own_list.ensures.of_own_list _ c.in-Count.is
-
-pub returns-in-Count-clause-dst_after : goal.returns-in-Count-clause-dst_after
-returns-in-Count-clause-dst_after c =
-    let k = c.check_program-c in
-    let none : k.result.number ≡ 0 = omega (arith, c.if-c-ne0.false) in
-    written_read _ k.result k.ensures none c.args.dst.now _ c.own_list.ensures.of_own_list_2
-
-pub returns-in-Short-clause-value : goal.returns-in-Short-clause-value
-returns-in-Short-clause-value c =
-    let k = c.check_program-c in
-    let none : k.result.number ≡ 0 = omega (arith, c.if-c-ne0.false) in
-    answer-short _ k.result k.ensures none c.args.dst.now _ c.own_list.ensures.of_own_list c.in-Short.is
-
-pub returns-in-Short-clause-dst_after : goal.returns-in-Short-clause-dst_after
-returns-in-Short-clause-dst_after c =
-    let k = c.check_program-c in
-    let none : k.result.number ≡ 0 = omega (arith, c.if-c-ne0.false) in
-    written_read _ k.result k.ensures none c.args.dst.now _ c.own_list.ensures.of_own_list_2
+pub returns-in-None : goal.returns-in-None
+returns-in-None c =
+    let e = sym c.in-Ok.is ∙ c.check_program.ensures.value in
+    record {
+      value = answer-short _ c.in-Ok.checked e c.args.dst.now _ (said (goal.at.returns-in-None c).After-own_list) c.in-None.is;
+      dst_after = written_read _ c.in-Ok.checked e c.args.dst.now _ (left (goal.at.returns-in-None c).After-own_list);
+    }

@@ -1,26 +1,25 @@
--- `ending::read_off` meets its contract. The invariant: what the words from k on show under k succ signs is what the whole shows.
-use mathlib.Core.Path.{refl, sym, ap, ◌∙◌}
-use native.Mathlib.Omega.{arith}
+-- `ending::read_off` meets its contract.
+use mathlib.Core.Path.{◌≡◌, sym, ap, ◌∙◌}
+use Prim.Native.Nat.{◌+◌}
 use lib.ListN.{get_or}
+use Rattle.std.proofs.Common.{rules, tests}
+use Rattle.std.specs.Prelude.{position}
+use Rattle.std.proofs.lemmas.Iterator.{YieldsList-from_slice}
+use Rattle.std.proofs.lemmas.Iterator.Search.{position_from_yields_List}
 use Rattle.rewriter.specs.Read.{root_w}
-use Rattle.rewriter.proofs.Endings.{read-end, read-succ, read-root}
+use Rattle.rewriter.proofs.Endings.{no_succ, read-first, read-none}
 use Rattle.rewriter.proofs.ending.read_off.Goals as goal
+use Rattle.rewriter.proofs.ending.read_off.Goals.{After-position}
 
-pub loop-k-init : goal.loop-k-init
-loop-k-init c = (omega arith, refl)
+-- what is found is the first word that is no succ
+found : (c : After-position) → c.position.result ≡ position no_succ c.args.term.now
+found c = position_from_yields_List no_succ _ _ c.position.result c.position.ensures.ran (YieldsList-from_slice _ c.iter.ensures.rest) (λ x b q k. search (rules, tests))
 
-pub returns-then-w-ne2 : goal.returns-then-w-ne2
-returns-then-w-ne2 c =
-    let a = c.args in
-    let k = c.loop-k.k in
-    c.at_root.ensures ∙ ap (root_w (get_or a.term.now k 0) k) c.word_at.ensures
-    ∙ sym (c.loop-k.invariant.1 ∙ read-root a.term.now k c.loop-k-test.true c.if-w-ne2.true)
+pub returns-in-Some : goal.returns-in-Some
+returns-in-Some c =
+    let at = sym (found (goal.at.returns-in-Some c).After-position) ∙ c.in-Some.is in
+    let next : c.unwrap_or.result ≡ get_or c.args.term.now (c.in-Some.k + 1) 0 = search rules in
+    c.at_root.ensures ∙ ap (root_w (get_or c.args.term.now c.in-Some.k 0) c.in-Some.k) next ∙ sym (read-first c.args.term.now c.in-Some.k at)
 
-pub loop-k-preserved : goal.loop-k-preserved
-loop-k-preserved c =
-    let a = c.args in
-    let k = c.loop-k.k in
-    (omega arith, c.loop-k.invariant.1 ∙ read-succ a.term.now k c.loop-k-test.true c.if-w-ne2.false)
-
-pub returns : goal.returns
-returns c = sym (c.loop-k.invariant.1 ∙ read-end c.args.term.now c.loop-k.k c.loop-k-test.false)
+pub returns-in-None : goal.returns-in-None
+returns-in-None c = sym (read-none c.args.term.now (sym (found (goal.at.returns-in-None c).After-position) ∙ c.in-None.is))

@@ -5,9 +5,9 @@ use lib.ListN.{length, drop}
 use Rattle.rules.specs.Finding.{first_from}
 use Rattle.rules.proofs.finding.first_fit.Given as goal
 
-abbrev pub invariant-loop-at : goal.invariant-loop-at
-invariant-loop-at l =
+abbrev pub invariant-loop-rule : goal.invariant-loop-rule
+invariant-loop-rule l =
     (l.at ≤ length l.rules) × (first_from l.arities l.subject 0 0 l.rules ≡ first_from l.arities l.subject 0 l.at (drop l.at l.rules))
 
-abbrev pub decreases-loop-at : goal.decreases-loop-at
-decreases-loop-at l = length l.rules - l.at
+abbrev pub decreases-loop-rule : goal.decreases-loop-rule
+decreases-loop-rule l = length l.rules - l.at

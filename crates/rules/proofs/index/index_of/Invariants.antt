@@ -5,8 +5,8 @@ use lib.ListN.{length, drop}
 use Rattle.rules.specs.Index.{index_from, index_of}
 use Rattle.rules.proofs.index.index_of.Given as goal
 
-abbrev pub invariant-loop-at : goal.invariant-loop-at
-invariant-loop-at l = (l.at ≤ length l.list) × (length l.index ≡ 802) × (index_of l.list ≡ index_from 0 l.at (drop l.at l.list) l.index)
+abbrev pub invariant-loop-rule : goal.invariant-loop-rule
+invariant-loop-rule l = (l.at ≤ length l.list) × (length l.index ≡ 401) × (index_of l.list ≡ index_from 0 l.at (drop l.at l.list) l.index)
 
-abbrev pub decreases-loop-at : goal.decreases-loop-at
-decreases-loop-at l = length l.list - l.at
+abbrev pub decreases-loop-rule : goal.decreases-loop-rule
+decreases-loop-rule l = length l.list - l.at

@@ -1,32 +1,21 @@
 -- `terms::put_root` meets its contract.
 use mathlib.Core.Path.{◌≡◌, sym, ap}
 use mathlib.Core.Bool.{Bool}
-use mathlib.Core.List.{[], ◌∷◌}
-use Prim.Native.Nat.{ℕ}
-use borrow.Author.Tests.{eq-eqb, ne_eqb}
+use mathlib.Core.List.{[], ◌∷◌, ◌++◌}
+use borrow.Author.Tests.{eq-eqb}
 use Rattle.theory.specs.Syntax.{pick}
-use Rattle.generated.proofs.Writes.{room_as, wrote_as}
-use Rattle.term_words.specs.Roots.{root_words}
+use Rattle.generated.proofs.Writes.{wrote_as, wrote_then, room_as, room-then}
+use Rattle.term_words.specs.Roots.{root_words, exception_words}
 use Rattle.term_words.proofs.terms.put_root.Goals as goal
+use Rattle.term_words.proofs.terms.put_root.Goals.{Then-root-eq11}
 
-two : (w x : ℕ) → w ≡ 11 → root_words w x ≡ w ∷ x ∷ []
-two w x e = ap (λ (b : Bool). pick b (w ∷ x ∷ []) (w ∷ [])) (eq-eqb w 11 e)
+both : (c : Then-root-eq11) → root_words c.args.root.word c.args.root.exception ≡ (c.args.root.word ∷ []) ++ exception_words c.args.root.exception
+both c = ap (λ (b : Bool). c.args.root.word ∷ pick b (exception_words c.args.root.exception) []) (eq-eqb c.args.root.word 11 c.if-root-eq11.true)
 
-one : (w x : ℕ) → (w ≡ 11 → ⊥) → root_words w x ≡ w ∷ []
-one w x e = ap (λ (b : Bool). pick b (w ∷ x ∷ []) (w ∷ [])) (ne_eqb w 11 e)
+pub put_exception-requires : goal.put_exception-requires
+put_exception-requires c =
+    let a = c.args in
+    room-then (a.root.word ∷ []) (exception_words a.root.exception) c.put.ensures (room_as a.out.now (both (goal.at.put_exception-requires c).Then-root-eq11) c.requires)
 
-pub put_words-requires : goal.put_words-requires
-put_words-requires c =
-    room_as c.args.at c.args.dst.now (two c.args.word c.args.exception c.if-word-eq11.true) c.requires
-
-pub returns-then-word-eq11 : goal.returns-then-word-eq11
-returns-then-word-eq11 c =
-    wrote_as (sym (two c.args.word c.args.exception c.if-word-eq11.true)) c.put_words.ensures
-
-pub put_words-requires-2 : goal.put_words-requires-2
-put_words-requires-2 c =
-    room_as c.args.at c.args.dst.now (one c.args.word c.args.exception c.if-word-eq11.false) c.requires
-
-pub returns : goal.returns
-returns c =
-    wrote_as (sym (one c.args.word c.args.exception c.if-word-eq11.false)) c.put_words-2.ensures
+pub returns-then-root-eq11 : goal.returns-then-root-eq11
+returns-then-root-eq11 c = wrote_as (sym (both (goal.at.returns-then-root-eq11 c).Then-root-eq11)) (wrote_then c.put.ensures c.put_exception.ensures)

@@ -6,7 +6,7 @@ use Rattle.term_words.proofs.Putting.{Putting}
 use Rattle.term_words.proofs.terms.put_terms.Given as goal
 
 abbrev pub invariant-loop-owed : goal.invariant-loop-owed
-invariant-loop-owed l = Putting l.arities l.bytes l.p l.n l.at l.initial.dst l.owed l.next l.to l.late l.dst × (length l.late ≡ length l.initial.late)
+invariant-loop-owed l = Putting l.arities l.bytes l.p l.n l.initial.out l.owed l.next l.late l.out × (length l.late ≡ length l.initial.late)
 
 abbrev pub decreases-loop-owed : goal.decreases-loop-owed
 decreases-loop-owed l = length l.bytes - l.next

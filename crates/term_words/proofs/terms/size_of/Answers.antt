@@ -3,9 +3,8 @@ use mathlib.Core.Path.{◌≡◌, sym, subst}
 use Prim.Native.Nat.{ℕ, ◌+◌, ◌-◌, ◌≤◌, ◌<◌}
 use native.Mathlib.Omega.{arith}
 use lib.ListN.{length}
-use lib.Dec.{eqb}
-use Rattle.theory.specs.Syntax.{pick}
 use Rattle.term_words.specs.Records.{Whole, from}
+use Rattle.term_words.specs.Roots.{exception_words}
 use Rattle.term_words.proofs.Laws.{root-inside, whole-first}
 use Rattle.term_words.proofs.Count.{Going, going_start, going-turn, going_end}
 use Rattle.term_words.proofs.terms.size_of.Goals as goal
@@ -23,7 +22,7 @@ bounds c here =
     let a = c.args in
     root-inside a.arities.now a.bytes.now c.loop-owed.next c.root_at-root.result c.root_at-root.ensures here
 
-turned : (c : After-root_at-root) → let a = c.args in Going a.arities.now a.bytes.now a.p a.n (c.loop-owed.owed - 1 + c.root_at-root.result.parts) c.root_at-root.result.next (c.loop-owed.count + pick (eqb c.root_at-root.result.exception 0) 1 2)
+turned : (c : After-root_at-root) → let a = c.args in Going a.arities.now a.bytes.now a.p a.n (c.loop-owed.owed - 1 + c.root_at-root.result.parts) c.root_at-root.result.next (c.loop-owed.count + (1 + length (exception_words c.root_at-root.result.exception)))
 turned c =
     let a = c.args in
     going-turn a.arities.now a.bytes.now a.p a.n c.loop-owed.owed c.loop-owed.next c.loop-owed.count c.root_at-root.result c.loop-owed.invariant c.loop-owed-test.true c.root_at-root.ensures
@@ -31,22 +30,11 @@ turned c =
 pub loop-owed-init : goal.loop-owed-init
 loop-owed-init c =
     let a = c.args in
-    subst (λ (i : ℕ). Going a.arities.now a.bytes.now a.p a.n i a.p 0) (sym c.size_of_byte-owed.ensures.value) (going_start a.arities.now a.bytes.now a.p a.n c.requires.p_in_bounds.0 c.requires.p_in_bounds.1)
+    subst (λ (i : ℕ). Going a.arities.now a.bytes.now a.p a.n i a.p 0) (sym c.from-owed.ensures) (going_start a.arities.now a.bytes.now a.p a.n c.requires.p_in_bounds.0 c.requires.p_in_bounds.1)
 
 pub root_at-root-requires : goal.root_at-root-requires
 root_at-root-requires c =
     (here (goal.at.root_at-root-requires c).In-loop-owed)
-
-pub overflow_add-count : goal.overflow_add-count
-overflow_add-count c =
-    omega (arith, (turned (goal.at.overflow_add-count c).After-root_at-root).words, c.word_count-count.ensures, c.requires.n_bound)
-
-pub overflow_sub-owed : goal.overflow_sub-owed
-overflow_sub-owed c = let h = c.loop-owed-test.true in omega (arith, h)
-
-pub overflow_add-owed : goal.overflow_add-owed
-overflow_add-owed c =
-    omega (arith, (turned (goal.at.overflow_add-owed c).After-root_at-root).few, c.size_of_byte.ensures.value)
 
 pub loop-owed-smaller : goal.loop-owed-smaller
 loop-owed-smaller c =
@@ -55,7 +43,7 @@ loop-owed-smaller c =
 pub loop-owed-preserved : goal.loop-owed-preserved
 loop-owed-preserved c =
     let a = c.args in
-    subst (λ (i : ℕ). Going a.arities.now a.bytes.now a.p a.n (c.loop-owed.owed - 1 + i) c.root_at-root.result.next (c.loop-owed.count + c.word_count-count.result)) (sym c.size_of_byte.ensures.value)
+    subst (λ (i : ℕ). Going a.arities.now a.bytes.now a.p a.n (c.loop-owed.owed - 1 + i) c.root_at-root.result.next (c.loop-owed.count + c.word_count-count.result)) (sym c.from.ensures)
     (subst (λ (i : ℕ). Going a.arities.now a.bytes.now a.p a.n (c.loop-owed.owed - 1 + c.root_at-root.result.parts) c.root_at-root.result.next (c.loop-owed.count + i)) (sym c.word_count-count.ensures) (turned (goal.at.loop-owed-preserved c).After-root_at-root))
 
 pub returns : goal.returns
@@ -65,5 +53,5 @@ returns c =
     (subst (λ (i : ℕ). Going a.arities.now a.bytes.now a.p a.n i c.loop-owed.next c.loop-owed.count) z c.loop-owed.invariant) in
     record {
       passed = both.0;
-      to_value = both.1;
+      words = both.1;
     }

@@ -13,13 +13,8 @@ terms_words-requires c =
     record {
       p_in_bounds = (omega (arith, b), h);
       n_bound = c.requires.p_bound;
-      room = room_as a.at a.dst.now (sym (term-alone a.arities.now a.bytes.now a.p h)) c.requires.room;
+      room = room_as a.out.now (sym (term-alone a.arities.now a.bytes.now a.p h)) c.requires.room;
     }
 
-pub returns : goal.returns
-returns c =
-    let a = c.args in
-    record {
-      passed = c.terms_words.ensures.passed;
-      wrote = wrote_as (term-alone a.arities.now a.bytes.now a.p c.requires.whole) c.terms_words.ensures.wrote;
-    }
+pub returns-clause-wrote : goal.returns-clause-wrote
+returns-clause-wrote c = wrote_as (term-alone c.args.arities.now c.args.bytes.now c.args.p c.requires.whole) c.terms_words.ensures.wrote

@@ -8,17 +8,8 @@ use Rattle.theory.proofs.Readability.{list-append}
 use Rattle.translator.specs.List.{rules_for}
 use Rattle.translator.proofs.lengths.list_length.Goals as goal
 
-pub exception_length-requires : goal.exception_length-requires
-exception_length-requires c = c.requires.2
-
-pub all_length-requires : goal.all_length-requires
-all_length-requires c = (c.requires.0, c.requires.1)
-
-pub overflow_add-result : goal.overflow_add-result
-overflow_add-result c = omega (arith, c.exception_length.ensures.upper_bound, c.all_length.ensures.upper_bound)
-
 pub returns : goal.returns
 returns c =
-    let a = c.args in
-    let fs = gather (rules_for a.arities.now a.program.now) (numbers 0 a.m) in
-    omega (arith, c.exception_length.ensures.value, c.all_length.ensures.value, ap length (list-append (exn_rules a.n) fs), length-append (stored_rules (exn_rules a.n)) (stored_rules fs))
+    let s = c.args.ready.now.source in
+    let fs = gather (rules_for s) (numbers 0 s.functions) in
+    omega (arith, c.exception_length.ensures.value, c.all_length.ensures.value, ap length (list-append (exn_rules s.exceptions) fs), length-append (stored_rules (exn_rules s.exceptions)) (stored_rules fs))

@@ -1,33 +1,19 @@
 -- `lengths::rule_length` meets its contract.
 use mathlib.Core.Path.{sym, ap, ap₂, ◌∙◌}
 use Prim.Native.Nat.{ℕ, ◌+◌}
-use native.Mathlib.Omega.{arith}
 use lib.ListN.{length}
 use Rattle.translator.specs.declared.rules.Sizes.{Sizes}
-use Rattle.translator.proofs.Laws.{if-same, if_other}
+use Rattle.translator.proofs.Laws.{if-same}
 use Rattle.translator.proofs.Counts.{rule-count}
 use Rattle.translator.proofs.lengths.rule_length.Goals as goal
 
-pub rule_sizes-s-requires : goal.rule_sizes-s-requires
-rule_sizes-s-requires c = c.requires.opened c.if-program-p.true
-
-pub returns-then-program-p : goal.returns-then-program-p
-returns-then-program-p c =
-    let a = c.args in
-    let o = c.requires.opened c.if-program-p.true in
-    let l = c.size_of_word.ensures.value ∙ ap (λ (x : Sizes). x.left) c.rule_sizes-s.ensures in
-    let r = c.size_of_word-then-program-p.ensures.value ∙ ap (λ (x : Sizes). x.right) c.rule_sizes-s.ensures in
-    record {
-      value = ap₂ (λ (i j : ℕ). 2 + i + j) l r
-          ∙ sym (rule-count a.arities.now a.program.now a.p (16 + a.f) a.n o)
-          ∙ sym (ap length (if-same a.arities.now a.program.now a.p a.f a.n c.if-program-p.true));
-      upper_bound = omega (arith, l, r, o.small_left, o.small_right);
-    }
-
-pub returns : goal.returns
-returns c =
-    let a = c.args in
-    record {
-      value = sym (ap length (if_other a.arities.now a.program.now a.p a.f a.n c.if-program-p.false));
-      upper_bound = omega arith;
-    }
+pub returns-then-from-f-clause-value : goal.returns-then-from-f-clause-value
+returns-then-from-f-clause-value c =
+    let f = c.args.f.now in
+    let p = c.args.p in
+    let same = sym c.from.ensures ∙ c.if-from-f.true in
+    let l = c.from-then-from-f.ensures ∙ ap (λ (x : Sizes). x.left) c.rule_sizes-s.ensures in
+    let r = c.from-then-from-f-2.ensures ∙ ap (λ (x : Sizes). x.right) c.rule_sizes-s.ensures in
+    ap₂ (λ (i j : ℕ). 2 + i + j) l r
+    ∙ sym (rule-count f.source p (16 + f.number) f.arity (c.requires.opened same))
+    ∙ sym (ap length (if-same f.source p f.number f.arity same))

@@ -1,31 +1,27 @@
--- `rules::all_rules` meets its contract. The invariant: the rules of the functions below f are written.
-use mathlib.Core.Path.{ap}
-use native.Mathlib.Nat.{le_antisymm}
-use native.Mathlib.Omega.{arith}
-use Rattle.generated.proofs.Writes.{below, wrote_none, wrote-length, wrote_as, turn-room, turn_more}
+-- `rules::all_rules` meets its contract. The invariant: the rules of the functions below the number are written.
+use mathlib.Core.Path.{◌≡◌, sym, ap₂}
+use Prim.Native.Nat.{ℕ}
+use Rattle.theory.specs.Words.{stored_rules}
+use Rattle.generated.proofs.Writes.{wrote_none, wrote_as, room_as, turn-room, turn_more}
+use Rattle.translator.specs.declared.Source.{Source}
 use Rattle.translator.specs.List.{rules_for}
 use Rattle.translator.proofs.rules.all_rules.Goals as goal
+use Rattle.translator.proofs.rules.all_rules.Goals.{After-of-f}
 
-pub loop-f-init : goal.loop-f-init
-loop-f-init c = let a = c.args in (omega arith, wrote_none a.at a.dst.now)
+-- the rules of the function at hand
+same : (c : After-of-f) → let f = c.of-f.result in stored_rules (rules_for f.source f.number) ≡ stored_rules (rules_for c.args.ready.now.source c.loop-number.number)
+same c = ap₂ (λ (x : Source) (k : ℕ). stored_rules (rules_for x k)) c.of-f.ensures.source c.of-f.ensures.number
 
-pub function_rules-next-requires : goal.function_rules-next-requires
-function_rules-next-requires c =
-    let a = c.args in
-    record {
-      listed = (c.requires.listed.0, c.requires.listed.1 c.loop-f.f c.loop-f-test.true);
-      room = turn-room (rules_for a.arities.now a.program.now) a.m c.loop-f.f a.at c.loop-f.next a.dst.now c.loop-f.dst c.loop-f-test.true c.requires.room c.loop-f.invariant.1;
-    }
+pub loop-number-init : goal.loop-number-init
+loop-number-init c = wrote_none c.args.out.now
 
-pub loop-f-preserved : goal.loop-f-preserved
-loop-f-preserved c =
-    let a = c.args in
-    (omega arith, turn_more (rules_for a.arities.now a.program.now) c.loop-f.f c.loop-f.invariant.1 c.function_rules-next.ensures)
+pub function_rules-requires : goal.function_rules-requires
+function_rules-requires c =
+    let s = c.args.ready.now.source in
+    room_as c.loop-number.out (sym (same (goal.at.function_rules-requires c).After-of-f))
+    (turn-room (rules_for s) s.functions c.loop-number.number c.loop-number-test.true c.requires c.loop-number.invariant)
 
-pub shape_of-dst : goal.shape_of-dst
-shape_of-dst c = wrote-length c.loop-f.invariant.1
-
-pub returns : goal.returns
-returns c =
-    let a = c.args in
-    wrote_as (ap (below (rules_for a.arities.now a.program.now)) (le_antisymm c.loop-f.invariant.0 c.loop-f-test.false)) c.loop-f.invariant.1
+pub loop-number-preserved : goal.loop-number-preserved
+loop-number-preserved c =
+    turn_more (rules_for c.args.ready.now.source) c.loop-number.number c.loop-number.invariant
+    (wrote_as (same (goal.at.loop-number-preserved c).After-of-f) c.function_rules.ensures)

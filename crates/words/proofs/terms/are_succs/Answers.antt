@@ -1,25 +1,19 @@
--- `terms::are_succs` meets its contract. The loop's invariant: where the first j words are succ's, the run ends where it ends behind them.
-use mathlib.Core.Path.{◌≡◌, sym, ap, ◌∙◌}
-use Prim.Native.Nat.{ℕ, ◌+◌}
-use native.Mathlib.Nat.{add-zero}
+-- `terms::are_succs` meets its contract. The loop's invariant: where the words so far are succ's, the run ends where it ends behind them.
+use mathlib.Core.Path.{sym, ap, ◌∙◌}
+use mathlib.Core.Bool.{◌&&◌}
+use Prim.Native.Nat.{ℕ, ◌+◌, ◌-◌, ◌<◌}
+use lib.Dec.{eqb}
 use native.Mathlib.Omega.{arith}
 use lib.ListN.{drop}
-use Rattle.words.specs.Terms.{succs_end}
+use lib.Seq.{get_or-drop}
+use Rattle.std.proofs.lemmas.List.{get_or-take}
 use Rattle.words.proofs.Skips.{succs-more}
 use Rattle.words.proofs.terms.are_succs.Goals as goal
 
-pub loop-j-init : goal.loop-j-init
-loop-j-init c =
+pub loop-w-preserved : goal.loop-w-preserved
+loop-w-preserved c =
     let a = c.args in
-    (omega arith, λ e. ap (λ (n : ℕ). succs_end (drop n a.words.now) n) (sym (add-zero a.at)))
-
-pub loop-j-preserved : goal.loop-j-preserved
-loop-j-preserved c =
-    let a = c.args in
-    (omega arith, λ t. succs-more a.words.now a.at c.loop-j.j c.loop-j.all (omega arith) c.loop-j.invariant.1 c.still-all.result c.still-all.ensures t)
-
-pub returns : goal.returns
-returns c =
-    let a = c.args in
-    let end : c.loop-j.j ≡ 16 = omega arith in
-    λ t. c.loop-j.invariant.1 t ∙ ap (λ (j : ℕ). succs_end (drop (a.at + j) a.words.now) (a.at + j)) end
+    let l = c.loop-w in
+    let in-block : l.w-index < a.at + 16 - a.at = omega arith in
+    let word = get_or-take (a.at + 16 - a.at) (drop a.at a.words.now) l.w-index 0 in-block ∙ get_or-drop a.at a.words.now l.w-index 0 in
+    λ t. succs-more a.words.now a.at l.w-index l.all (omega arith) l.invariant (sym (ap (λ (w : ℕ). l.all && eqb w 2) word) ∙ t)

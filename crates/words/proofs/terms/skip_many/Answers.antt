@@ -1,5 +1,5 @@
 -- `terms::skip_many` meets its contract. The loop's invariant: the n terms end where the parts still owed end. The measure is the words that remain.
-use mathlib.Core.Path.{◌≡◌, refl, sym, ◌∙◌}
+use mathlib.Core.Path.{◌≡◌, sym, ◌∙◌}
 use Prim.Native.Nat.{◌<◌}
 use native.Mathlib.Omega.{arith}
 use lib.ListN.{length, drop, length-drop}
@@ -15,7 +15,7 @@ under c =
     c.loop-owed.invariant ∙ past-run a.arities.now a.words.now c.loop-owed.next c.root_of-root.result c.loop-owed.owed (omega arith) c.root_of-root.ensures
 
 pub loop-owed-init : goal.loop-owed-init
-loop-owed-init c = refl
+loop-owed-init c = rw c.from-owed.ensures
 
 pub returns-then-words-root : goal.returns-then-words-root
 returns-then-words-root c =
@@ -34,7 +34,7 @@ pub loop-owed-preserved : goal.loop-owed-preserved
 loop-owed-preserved c =
     let some : 0 < c.loop-owed.owed = omega arith in
     let inside : c.root_of-root.result < length c.args.words.now = omega arith in
-    (under (goal.at.loop-owed-preserved c).After-root_of-root) ∙ rw c.arity.ensures (past-step _ _ _ _ some inside)
+    (under (goal.at.loop-owed-preserved c).After-root_of-root) ∙ rw (c.from.ensures, c.arity.ensures) (past-step _ _ _ _ some inside)
 
 pub returns : goal.returns
 returns c =

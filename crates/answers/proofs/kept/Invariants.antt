@@ -1,9 +1,0 @@
--- `answers::kept` meets its contract.
-use Rattle.std.proofs.Common.{◌≤◌, length}
-use Rattle.answers.proofs.kept.Given as goal
-
-abbrev pub invariant-loop-n : goal.invariant-loop-n
-invariant-loop-n l = l.n ≤ length l.words
-
-abbrev pub decreases-loop-n : goal.decreases-loop-n
-decreases-loop-n l = l.n

@@ -1,2 +1,0 @@
--- The laws of declarations.
-pub mod Laws

@@ -1,9 +1,0 @@
--- `shown::show_words` is safe and ends.
-use Rattle.std.proofs.Common.{◌-◌, length}
-use Rattle.own_lists.proofs.shown.show_words.Given as goal
-
-abbrev pub invariant-loop-i : goal.invariant-loop-i
-invariant-loop-i g l = Unit {0}
-
-abbrev pub decreases-loop-i : goal.decreases-loop-i
-decreases-loop-i g l = length l.ws - l.i
