@@ -1,6 +1,8 @@
 // The output, through a buffer that is written out when it is full: a line can have tens of thousands of numbers.
-ghost use Rattle.std.specs.Prelude.{◌+◌, ◌≤◌, length, IfOk};
+ghost use Rattle.std.specs.Prelude.{[], ◌≡◌, ◌+◌, ◌≤◌, ◌++◌, length, codes, IfOk};
 ghost use Rattle.arrayvec.specs.ArrayVec.{array_vec_len};
+ghost use Rattle.wording.specs.Words.{ending_of, refusal_of};
+ghost use Rattle.answers.specs.Held.{before_piece, with_word, with_words};
 
 use arrayvec::ArrayVec;
 use bridge::report::Report;
@@ -16,7 +18,10 @@ pub struct Output {
 }
 
 impl Output {
-    pub fn new() -> Self {
+    // Nothing is held.
+    pub fn new() -> Self
+        ensures { result.held.items ≡ [] }
+    {
         Output {
             held: ArrayVec::new(),
         }
@@ -24,7 +29,7 @@ impl Output {
 
     // Writes out what is held.
     pub fn flush(&mut self, rt: &impl Print) -> io::Result<()>
-        ensures { array_vec_len self.new.held ≤ 0 }
+        ensures { self.new.held.items ≡ [] }
     {
         let written = rt.write_all(self.held.as_slice());
         self.held.clear();
@@ -33,7 +38,8 @@ impl Output {
 
     // Makes room for a piece of text: what is held is written out where too little is left.
     fn make_room(&mut self, rt: &impl Print) -> io::Result<()>
-        ensures { IfOk result (λ u. array_vec_len self.new.held + 128 ≤ 65536) }
+        ensures value { IfOk result (λ u. self.new.held.items ≡ before_piece self.old.held.items) }
+        ensures room { IfOk result (λ u. array_vec_len self.new.held + 128 ≤ 65536) }
     {
         if self.held.remaining_capacity() < PIECE {
             self.flush(rt)?;
@@ -44,6 +50,7 @@ impl Output {
     // A short text.
     pub fn put_piece(&mut self, rt: &impl Print, text: &[u8]) -> io::Result<()>
         requires { length text.now ≤ 128 }
+        ensures { IfOk result (λ u. self.new.held.items ≡ before_piece self.old.held.items ++ text.now) }
     {
         self.make_room(rt)?;
         wording::put_text(&mut self.held, text);
@@ -51,7 +58,9 @@ impl Output {
     }
 
     // A refusal's line.
-    pub fn put_refused(&mut self, rt: &impl Print, report: Report) -> io::Result<()> {
+    pub fn put_refused(&mut self, rt: &impl Print, report: Report) -> io::Result<()>
+        ensures { IfOk result (λ u. self.new.held.items ≡ before_piece self.old.held.items ++ refusal_of report ++ codes "\n") }
+    {
         self.make_room(rt)?;
         wording::put_refusal(&mut self.held, report);
         wording::put_text(&mut self.held, b"\n");
@@ -64,7 +73,9 @@ impl Output {
         rt: &impl Print,
         evaluated: Report,
         rewritten: Report,
-    ) -> io::Result<()> {
+    ) -> io::Result<()>
+        ensures { IfOk result (λ u. self.new.held.items ≡ before_piece self.old.held.items ++ codes "ok " ++ ending_of evaluated ++ codes " ; " ++ ending_of rewritten) }
+    {
         self.make_room(rt)?;
         wording::put_text(&mut self.held, b"ok ");
         wording::put_ending(&mut self.held, evaluated);
@@ -76,6 +87,7 @@ impl Output {
     // A word behind the sign that parts it from what stands before.
     fn put_word(&mut self, rt: &impl Print, sign: &[u8], word: u16) -> io::Result<()>
         requires { length sign.now ≤ 3 }
+        ensures { IfOk result (λ u. self.new.held.items ≡ with_word self.old.held.items sign.now word) }
     {
         self.make_room(rt)?;
         wording::put_text(&mut self.held, sign);
@@ -84,7 +96,10 @@ impl Output {
     }
 
     // A list of words, with commas between them; "-" for none.
-    pub fn put_words(&mut self, rt: &impl Print, words: &[u16]) -> io::Result<()> {
+    #[tactic(auto, unfolding(crate::specs::Held::with_words, crate::specs::Held::with_more))]
+    pub fn put_words(&mut self, rt: &impl Print, words: &[u16]) -> io::Result<()>
+        ensures { IfOk result (λ u. self.new.held.items ≡ with_words self.old.held.items words.now) }
+    {
         let Some((first, rest)) = words.split_first() else {
             return self.put_piece(rt, b" ; -");
         };
