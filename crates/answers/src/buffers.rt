@@ -1,4 +1,6 @@
 // The words that are lent to the rewriter, case by case.
+ghost use Rattle.std.specs.Prelude.{◌≡◌, replicate};
+
 use crate::cases::{Case, read_case};
 use crate::output::Output;
 use bridge::report::Report;
@@ -29,7 +31,12 @@ fn kept(words: &[u16], room: usize) -> &[u16] {
 }
 
 impl Buffers {
-    pub fn new() -> Self {
+    // All zeros.
+    pub fn new() -> Self
+        ensures own { result.own ≡ replicate 15504 0 }
+        ensures first { result.first ≡ replicate 4096 0 }
+        ensures second { result.second ≡ replicate 4096 0 }
+    {
         Buffers {
             own: [0; 15504],
             first: [0; 4096],
@@ -74,11 +81,11 @@ impl Buffers {
             case.steps,
             case.levels,
         );
-        if evaluated.number != 0 {
+        if evaluated.is_refusal() {
             return out.put_refused(rt, evaluated);
         }
         let rewritten = self.rewrite(case);
-        if rewritten.number != 0 {
+        if rewritten.is_refusal() {
             return out.put_refused(rt, rewritten);
         }
         out.put_engines(rt, evaluated, rewritten)?;

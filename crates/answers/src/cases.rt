@@ -1,4 +1,7 @@
 // A case as a line: PROGRAM QUESTION STEPS LEVELS ROOM OWN FIRST SECOND, one space apart, bytes in hexadecimal digits, numbers in decimal ones.
+ghost use Rattle.std.specs.Prelude.{◌≡◌};
+ghost use Rattle.answers.specs.Fields.{number_in};
+
 use arrayvec::ArrayVec;
 
 // The program and the question, the allowances, and the lengths of the lent slices.
@@ -15,7 +18,10 @@ pub struct Case {
 }
 
 // A field of decimal digits, of which there is at least one. Past 32 bits it is the largest number of 32.
-fn number(field: &[u8]) -> Option<u32> {
+#[tactic(auto, unfolding(crate::specs::Fields::digits_from, crate::specs::Fields::number_in))]
+fn number(field: &[u8]) -> Option<u32>
+    ensures { result ≡ number_in field.now }
+{
     if field.is_empty() {
         return None;
     }
@@ -40,8 +46,5 @@ pub fn read_case(line: &[u8]) -> Option<Case> {
         first: number(fields.next()?)?,
         second: number(fields.next()?)?,
     };
-    match fields.next() {
-        None => Some(case),
-        Some(_) => None,
-    }
+    fields.next().is_none().then_some(case)
 }

@@ -10,7 +10,8 @@ use input::Lines;
 use output::Output;
 use std::io;
 
-// The answers to all lines. What is held is written before a failed read is handed on.
+// The answers to all lines. What is held is written before a failed read is handed on. The turns have a bound that no run uses up, since
+// nothing says that the input ends.
 fn answer_all(
     rt: &impl Print,
     out: &mut Output,

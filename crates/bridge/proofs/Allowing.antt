@@ -37,15 +37,6 @@ within-allowances steps other most e =
     let b = and-true (leb 1 other) (leb other most) a.1 in
     (leb-true steps 1000000 a.0, leb-true 1 other b.0, leb-true other most b.1)
 
-pub over-steps : (steps other most : ℕ) → 1000000 < steps → false ≡ allowances steps other most
-unfolding allowances
-over-steps steps other most h = sym (ap (λ (b : Bool). b && (leb 1 other && leb other most)) (lt-leb steps 1000000 h))
-
-pub under_one : (steps other most : ℕ) → steps ≤ 1000000 → other < 1 → false ≡ allowances steps other most
-unfolding allowances
-under_one steps other most h k =
-    sym (ap (λ (b : Bool). b && (leb 1 other && leb other most)) (le-leb steps 1000000 h) ∙ ap (λ (b : Bool). b && leb other most) (lt-leb 1 other k))
-
 pub by_most : (steps other most : ℕ) → steps ≤ 1000000 → 1 ≤ other → leb other most ≡ allowances steps other most
 unfolding allowances
 by_most steps other most h k =
@@ -64,14 +55,6 @@ within-limits steps room first second e = go (allowances steps room 4096) refl (
         (w.0, w.1, w.2, leb-true room first b.0, leb-true room second b.1)
     go true ex false ey z = cc
     go false ex y ey z = cc
-
-pub first_short : (room first second : ℕ) → first < room → false ≡ buffers_hold room first second
-unfolding buffers_hold
-first_short room first second h = sym (ap (λ (b : Bool). b && leb room second) (lt-leb room first h))
-
-pub by-second : (room first second : ℕ) → room ≤ first → leb room second ≡ buffers_hold room first second
-unfolding buffers_hold
-by-second room first second h = sym (ap (λ (b : Bool). b && leb room second) (le-leb room first h))
 
 -- REFUSALS 1 TO 11 AND 17
 module _ (p q : List ℕ) (r : Report) (e : Err r ≡ judged_as p q) where
@@ -102,12 +85,13 @@ module _ {p q : List ℕ} {c : Checked} (a : Accepts p q c) where
       e ∙ sym (ap (λ (v : Verdict). report_of (evaluated steps levels v)) is-judged
       ∙ ap (λ (b : Bool). report_of (choose b (λ u. answer (evaluator (program_of a.checks.book) levels steps a.term)) (λ u. refusal 12 the_program 0))) h)
 
-  pub evaluate-runs : (steps levels : ℕ) (r : Report) → allowances steps levels 1000 ≡ true
+  pub evaluate-runs : (steps levels : ℕ) (r : Report) → (steps ≤ 1000000) × (1 ≤ levels) × (levels ≤ 1000)
       → r ≡ answer_report (evaluator (program_of a.checks.book) levels steps a.term) → r ≡ report_of (evaluate p q steps levels)
   unfolding evaluate report_of allowances
   evaluate-runs steps levels r h e =
+      let within : allowances steps levels 1000 ≡ true = sym (by_most steps levels 1000 h.0 h.1) ∙ le-leb levels 1000 h.2 in
       e ∙ sym (ap (λ (v : Verdict). report_of (evaluated steps levels v)) is-judged
-      ∙ ap (λ (b : Bool). report_of (choose b (λ u. answer (evaluator (program_of a.checks.book) levels steps a.term)) (λ u. refusal 12 the_program 0))) h)
+      ∙ ap (λ (b : Bool). report_of (choose b (λ u. answer (evaluator (program_of a.checks.book) levels steps a.term)) (λ u. refusal 12 the_program 0))) within)
 
   -- THE REWRITER'S CALL
   module _ (steps room : ℕ) (own first second : List ℕ) where

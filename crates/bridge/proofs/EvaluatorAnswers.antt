@@ -8,17 +8,17 @@ use Rattle.theory.specs.Syntax.{zero_b, true_b, false_b, Val, base, up, height, 
 use Rattle.theory.specs.Endings.{Ending, value, raised, stuck, too_deep, is, out_of_steps, says}
 use Rattle.theory.specs.Cost.{Cost, eval, evaluator}
 use Rattle.theory.specs.Bytes.{program_of}
+use Rattle.checker.specs.declared.Checked.{Checked}
 use Rattle.evaluator.specs.declared.values.Outcome.{Outcome}
 use Rattle.words.specs.Base.{named}
 use Rattle.evaluator.specs.Outcomes.{outcome_of}
-use Rattle.rules.specs.declared.index.Span.{Span}
-use Rattle.rules.specs.Index.{index_of}
-use Rattle.evaluator.specs.Evaluation.{evaluated}
+use Rattle.rules.specs.declared.lists.Lists.{Lists}
+use Rattle.evaluator.specs.Evaluation.{evaluated_by}
 use Rattle.evaluator.proofs.OnBytes.{evaluator-on-bytes}
 use Rattle.bridge.specs.declared.report.Report.{Report}
 use Rattle.bridge.specs.Report.{base_number, const_number, ending_report, answer_report}
 use Rattle.bridge.specs.EvaluatorReport.{outcome_report}
-use Rattle.bridge.specs.Accepted.{question_words, standing_words, own_words, Lent}
+use Rattle.bridge.specs.Accepted.{Accepts, question_words, standing_words, own_words, Lends}
 use Rattle.bridge.proofs.Lending.{arities-are}
 
 value-number : (v : Val) → const_number (named (base_of v)) ≡ base_number v
@@ -44,11 +44,15 @@ evaluator-report P levels steps t = by-cut (leb r.paid steps)
     by-cut true = ended r.ending r.paid
     by-cut false = refl
 
-module _ {asked st own ar : List ℕ} (l : Lent asked st own ar) where
-  pub evaluator-answers : (si oi : List Span) (levels levels' steps : ℕ) (o : Outcome) (r : Report) → si ≡ index_of st → oi ≡ index_of own → levels' ≡ levels
-      → o ≡ evaluated asked st own ar si oi levels' steps → r ≡ outcome_report o → r ≡ answer_report (evaluator (program_of l.book) levels steps l.term)
+module _ {p q : List ℕ} {c : Checked} (a : Accepts p q c) (x : Lists) (h : Lends a.checks.book x) (asked : List ℕ) (ea : asked ≡ question_words a.term) where
+  abbrev P : Program
+  P = program_of a.checks.book
+
+  pub evaluator-answers : (levels levels' steps : ℕ) (o : Outcome) (r : Report) → levels' ≡ levels → o ≡ evaluated_by x asked levels' steps → r ≡ outcome_report o
+      → r ≡ answer_report (evaluator P levels steps a.term)
   unfolding question_words standing_words own_words
-  evaluator-answers si oi levels levels' steps o r ei ej e h w =
+  evaluator-answers levels levels' steps o r e eo w =
       w
-      ∙ ap outcome_report (h ∙ evaluator-on-bytes l.program l.question l.book l.term l.program_read l.question_read asked st own ar si oi l.asked_is l.standing_list l.own_is (arities-are l) ei ej levels' steps)
-      ∙ evaluator-report (program_of l.book) levels' steps l.term ∙ ap (λ (i : ℕ). answer_report (evaluator (program_of l.book) i steps l.term)) e
+      ∙ ap outcome_report
+      (eo ∙ evaluator-on-bytes p q a.checks.book a.term a.checks.program_read a.question_read asked x.standing.list.now x.own.list.now x.arities.now x.standing.index.now x.own.index.now ea h.standing_is h.own_is (arities-are a x h) h.standing_indexed h.own_indexed levels' steps)
+      ∙ evaluator-report P levels' steps a.term ∙ ap (λ (i : ℕ). answer_report (evaluator P i steps a.term)) e

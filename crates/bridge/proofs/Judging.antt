@@ -1,9 +1,9 @@
 -- The checker's answers give refusals 1 to 11 and 17; and where there is none, program and question are accepted.
-use Prim.Native.Nat.{ℕ, ◌+◌, ◌-◌, ◌<◌}
+use Prim.Native.Nat.{ℕ, ◌<◌}
 use mathlib.Core.Path.{◌≡◌, refl, sym, ap, ap₂, ◌∙◌}
 use mathlib.Core.List.{List}
 use native.Mathlib.Omega.{arith}
-use lib.ListN.{length, take, drop}
+use lib.ListN.{take, drop}
 use Rattle.std.specs.Prelude.{Ok, Err}
 use Rattle.theory.specs.Syntax.{Term}
 use Rattle.theory.specs.Bytes.{Result, refused, good, Refusal, Declared, Book, read_program, read_question}
@@ -46,9 +46,9 @@ module _ (p : List ℕ) (x : checker.Refusal) (e : Err x ≡ checked_of (read_pr
       ap Err (er ∙ ap₂ (λ (i j : ℕ). refusal_report i 1 j) b.1.1.number b.1.1.place) ∙ sym (ap judged_of (program-judged p q b.0 b.1.0))
 
 -- an accepted program's declarations are those that are lent
-module _ (p : List ℕ) (c : Checked) (e : Ok c ≡ checked_of (read_program p)) where
+module _ (p : List ℕ) (c : Checked) (e : Ok c ≡ checked_of (read_program p)) (ns : List ℕ) (en : ns ≡ take c.functions (drop 16 c.arities)) where
   abbrev lent : Declared
-  lent = declared c.exceptions (take (16 + c.functions - 16) (drop 16 c.arities))
+  lent = declared c.exceptions ns
 
   read : (s : Book) × ((read_program p ≡ good s) × (c ≡ checked_as s))
   unfolding checked_of
@@ -57,25 +57,24 @@ module _ (p : List ℕ) (c : Checked) (e : Ok c ≡ checked_of (read_program p))
   declared-is : lent ≡ read.0.decls
   declared-is =
       let s = read.0 in
-      let n : 16 + length s.decls.arities - 16 ≡ length s.decls.arities = omega arith in
-      ap (λ (x : Checked). declared x.exceptions (take (16 + x.functions - 16) (drop 16 x.arities))) read.1.1
-      ∙ ap (λ (ns : List ℕ). declared s.decls.exceptions ns) (ap (λ (i : ℕ). take i (drop 16 (checked_as s).arities)) n ∙ arities-lent p s read.1.0)
+      ap (declared c.exceptions) en ∙ ap (λ (x : Checked). declared x.exceptions (take x.functions (drop 16 x.arities))) read.1.1
+      ∙ ap (λ (ns : List ℕ). declared s.decls.exceptions ns) (arities-lent p s read.1.0)
 
   -- THE QUESTION'S REFUSAL
   module _ (q : List ℕ) where
     module _ (x : checker.Refusal) (ex : Err x ≡ verdict_of (read_question lent q)) where
       refused-there : (r : Refusal) × (read_question read.0.decls q ≡ refused r)
-      refused-there = let b = question_refused c.exceptions (take (16 + c.functions - 16) (drop 16 c.arities)) q x ex in (b.0, sym (ap (λ (D : Declared). read_question D q) declared-is) ∙ b.1.0)
+      refused-there = let b = question_refused c.exceptions ns q x ex in (b.0, sym (ap (λ (D : Declared). read_question D q) declared-is) ∙ b.1.0)
 
       pub question-place : x.place < 4294967296
       question-place =
-          let b = question_refused c.exceptions (take (16 + c.functions - 16) (drop 16 c.arities)) q x ex in
+          let b = question_refused c.exceptions ns q x ex in
           omega (arith, (refusals.question-refused lent q b.0 b.1.0).in_words, b.1.1.place)
 
       pub question-refused : (r : Report) → r ≡ refusal_report (number_of x.reason) 2 x.place → Err r ≡ judged_as p q
       unfolding judged_as refused-there
       question-refused r er =
-          let b = question_refused c.exceptions (take (16 + c.functions - 16) (drop 16 c.arities)) q x ex in
+          let b = question_refused c.exceptions ns q x ex in
           ap Err (er ∙ ap₂ (λ (i j : ℕ). refusal_report i 2 j) b.1.1.number b.1.1.place)
           ∙ sym (ap judged_of (question-judged p q read.0 b.0 read.1.0 refused-there.1))
 
@@ -83,7 +82,7 @@ module _ (p : List ℕ) (c : Checked) (e : Ok c ≡ checked_of (read_program p))
     pub both-accepted : Ok tt ≡ verdict_of (read_question lent q) → Ok c ≡ judged_as p q
     unfolding judged_as
     both-accepted h =
-        let t = question_read c.exceptions (take (16 + c.functions - 16) (drop 16 c.arities)) q h in
+        let t = question_read c.exceptions ns q h in
         ap Ok read.1.1 ∙ sym (ap judged_of (both-judged p q read.0 t.0 read.1.0 (sym (ap (λ (D : Declared). read_question D q) declared-is) ∙ t.1)))
 
 pub accepted : (p q : List ℕ) (c : Checked) → Ok c ≡ judged_as p q → Accepts p q c

@@ -1,11 +1,11 @@
 -- What an engine is lent of an accepted program and question: the fronts of what was written.
-use Prim.Native.Nat.{ℕ, ◌-◌, ◌≤◌, ◌<◌}
+use Prim.Native.Nat.{ℕ, ◌≤◌, ◌<◌}
 use mathlib.Core.Path.{◌≡◌, refl, sym, ap, ap₂, ◌∙◌}
 use mathlib.Core.Bool.{Bool, true, false}
 use mathlib.Core.List.{List, []}
 use native.Mathlib.Omega.{arith}
 use lib.Dec.{leb}
-use lib.ListN.{length, take, drop, get_or, replicate, length-replicate}
+use lib.ListN.{length, take, get_or, replicate, length-replicate}
 use borrow.Author.Tests.{leb-true, leb-false, le-leb, lt-leb}
 use Rattle.theory.specs.Syntax.{pick}
 use Rattle.theory.specs.Builtins.{fun_of}
@@ -18,9 +18,12 @@ use Rattle.theory.proofs.Readability.{length-words}
 use Rattle.words.proofs.Writes.{length_over, take-over}
 use Rattle.checker.specs.declared.Checked.{Checked}
 use Rattle.checker.specs.Answer.{table}
-use Rattle.std.specs.Prelude.{Option, Some, None}
+use Rattle.rules.specs.declared.lists.Lists.{Lists}
+use Rattle.std.specs.Prelude.{Option, Some, None, IfSome}
+use Rattle.std.specs.Option.{unwrap_or}
+use Rattle.bridge.specs.declared.report.Report.{Report}
 use Rattle.translator.specs.Answered.{answered, filled}
-use Rattle.bridge.specs.Accepted.{Checks, Accepts, Asks, own_words, question_words, standing_words, Lent}
+use Rattle.bridge.specs.Accepted.{Checks, Accepts, own_words, question_words, standing_words, Lends}
 use Rattle.checker.proofs.Table.{table_is}
 
 -- how many words they are: the evaluator's own list stands in an array of 15,504
@@ -28,11 +31,11 @@ pub own-short-enough : (p : List ℕ) (c : Checked) (a : Checks p c) → length 
 unfolding own_words
 own-short-enough p c a = own-list-fits p a.book a.program_read
 
-pub question-short-enough : (q : List ℕ) (c : Checked) (a : Asks q c) → length (question_words a.accepts.term) ≤ 512
+question-short-enough : (p q : List ℕ) (c : Checked) (a : Accepts p q c) → length (question_words a.term) ≤ 512
 unfolding question_words
-question-short-enough q c a =
-    let k = question-fits a.accepts.checks.book.decls q a.accepts.term a.accepts.question_read in
-    omega (arith, length-words (tree a.accepts.term), k)
+question-short-enough p q c a =
+    let k = question-fits a.checks.book.decls q a.term a.question_read in
+    omega (arith, length-words (tree a.term), k)
 
 -- what the answer says, and what the slice holds
 module _ (ws d : List ℕ) (o : Option ℕ) (e : o ≡ answered ws d) where
@@ -59,16 +62,16 @@ filled_none ws d d' e h = e ∙ ap (λ (b : Bool). pick b (over ws d) d) (lt-leb
 -- WHAT IS LENT OF THEM: the first n words of d' are ws
 pub record Fronts (ws d' : List ℕ) (n : ℕ) : Type 0 where
   pub inside : n ≤ length d'
-  pub front : take (n - 0) (drop 0 d') ≡ ws
+  pub front : take n d' ≡ ws
 
 fronts : (ws d d' : List ℕ) (n : ℕ) → n ≡ length ws → d' ≡ over ws d → length ws ≤ length d → Fronts ws d' n
 fronts ws d d' n en e h =
-    let z : n - 0 ≡ length ws = omega (arith, en) in
-    record { inside = omega (arith, en, ap length e, length_over ws d, h); front = ap₂ take z e ∙ take-over ws d h }
+    record { inside = omega (arith, en, ap length e, length_over ws d, h); front = ap₂ take en e ∙ take-over ws d h }
 
-pub question-front : (q : List ℕ) (c : Checked) (a : Asks q c) (d' : List ℕ) (n : ℕ) → n ≡ length (question_words a.accepts.term)
-    → d' ≡ over (question_words a.accepts.term) (replicate 512 0) → Fronts (question_words a.accepts.term) d' n
-question-front q c a d' n en e = fronts (question_words a.accepts.term) (replicate 512 0) d' n en e (omega (arith, question-short-enough q c a, length-replicate {A = ℕ} 512 0))
+pub question-front : (p q : List ℕ) (c : Checked) (a : Accepts p q c) (d' : List ℕ) (n : ℕ) → n ≡ length (question_words a.term)
+    → d' ≡ over (question_words a.term) (replicate 512 0) → Fronts (question_words a.term) d' n
+question-front p q c a d' n en e =
+    fronts (question_words a.term) (replicate 512 0) d' n en e (omega (arith, question-short-enough p q c a, length-replicate {A = ℕ} 512 0))
 
 pub own-front : (ws d d' : List ℕ) (o : Option ℕ) (n : ℕ) → o ≡ answered ws d → d' ≡ filled ws d → o ≡ Some n → Fronts ws d' n × (length ws ≤ length d) × (d' ≡ over ws d)
 own-front ws d d' o n eo e k =
@@ -79,10 +82,12 @@ own-front ws d d' o n eo e k =
 pub own-unwritten : (ws d d' : List ℕ) (o : Option ℕ) → o ≡ answered ws d → d' ≡ filled ws d → o ≡ None → (length d < length ws) × (d' ≡ d)
 own-unwritten ws d d' o eo e k = let m = not-counted ws d o eo k in (m, filled_none ws d d' e m)
 
--- WHAT AN ENGINE IS LENT
-abbrev pub asks : {p q : List ℕ} {c : Checked} → Accepts p q c → Asks q c
-asks {p} a = record { program = p; accepts = a }
+-- an answer that is there is what is unwrapped
+pub unwrapped : (o : Option Report) (d r x : Report) → (o ≡ None → ⊥) → IfSome o (λ y. y ≡ x) → r ≡ unwrap_or o d → r ≡ x
+unwrapped None d r x n h e = absurd (n refl)
+unwrapped (Some y) d r x n h e = e ∙ h
 
+-- WHAT AN ENGINE IS LENT
 -- the checker's table of arities
 pub arities-lent : (p : List ℕ) (c : Checked) (a : Checks p c) → c.arities ≡ table a.book.decls.arities
 arities-lent p c a = ap (λ (x : Checked). x.arities) a.answer
@@ -91,23 +96,6 @@ pub standing-is : (st : List ℕ) → st ≡ stored_rules (standing (fun_of []))
 unfolding standing_words
 standing-is st e = e
 
-module _ {p q : List ℕ} {c : Checked} (a : Accepts p q c) where
-  abbrev pub engine-lent : (asked st own : List ℕ) → asked ≡ question_words a.term → st ≡ standing_words → own ≡ own_words a.checks.book → Lent asked st own c.arities
-  engine-lent asked st own ea es eo =
-      record {
-        program = p;
-        question = q;
-        book = a.checks.book;
-        term = a.term;
-        program_read = a.checks.program_read;
-        question_read = a.question_read;
-        asked_is = ea;
-        standing_list = es;
-        own_is = eo;
-        arity_table = arities-lent p c a.checks;
-      }
-
 -- the arities that are lent are the program's
-module _ {asked st own ar : List ℕ} (l : Lent asked st own ar) where
-  pub arities-are : (k : ℕ) → get_or ar k 0 ≡ ((program_of l.book).fun k).arity
-  arities-are k = ap (λ (x : List ℕ). get_or x k 0) l.arity_table ∙ table_is l.program l.book l.program_read k
+pub arities-are : {p q : List ℕ} {c : Checked} (a : Accepts p q c) (x : Lists) → Lends a.checks.book x → (k : ℕ) → get_or x.arities.now k 0 ≡ ((program_of a.checks.book).fun k).arity
+arities-are {p} a x h k = ap (λ (l : List ℕ). get_or l k 0) h.arity_table ∙ table_is p a.checks.book a.checks.program_read k

@@ -4,7 +4,6 @@ mod Judging
 mod Allowing
 mod Lending
 mod TranslatorWords
-mod Endings
 mod EvaluatorAnswers
 mod RewriterAnswers
 mod Telling

@@ -16,17 +16,16 @@ use Rattle.theory.specs.Bytes.{good, Book, program_of, read_program}
 use Rattle.theory.specs.Answers.{last_words}
 use Rattle.theory.proofs.Bounds.{rewriter-steps, rewriter-height, rewriter-stuck}
 use Rattle.theory.proofs.Exceptions.{rewriter-exception}
-use Rattle.rewriter.specs.declared.ending.Said as rewriting
+use Rattle.checker.specs.declared.Checked.{Checked}
 use Rattle.rewriter.specs.declared.Answer as engine
 use Rattle.rewriter.specs.Meaning.{const_of, answer_of, said_of}
-use Rattle.rules.specs.Index.{index_of}
-use Rattle.rules.specs.declared.index.Span.{Span}
-use Rattle.rewriter.specs.Read.{answer_w, run_on}
+use Rattle.rules.specs.declared.lists.Lists.{Lists}
+use Rattle.rewriter.specs.Read.{answer_w, run_by}
 use Rattle.rewriter.proofs.OnBytes.{rewriter-on-bytes}
 use Rattle.bridge.specs.declared.report.Report.{Report}
 use Rattle.bridge.specs.Report.{base_number, const_number, ending_report, answer_report}
-use Rattle.bridge.specs.RewriterReport.{said_as, rewriting_report, said_amount, Fits}
-use Rattle.bridge.specs.Accepted.{question_words, standing_words, own_words, Lent}
+use Rattle.bridge.specs.RewriterReport.{rewriting_report, said_amount, Fits}
+use Rattle.bridge.specs.Accepted.{Accepts, question_words, standing_words, own_words, Lends}
 use Rattle.bridge.proofs.Lending.{arities-are}
 
 -- No tree shows `too_deep`, and so no run says it
@@ -96,13 +95,6 @@ rewriter-not-deep P room n t = by_size (leb (size (tree t)) room)
     by_size true = run-not-deep (first_fit (rules P)) room n (tree t)
     by_size false = tt
 
-pub rewriting-by : (a : engine.Answer) (m : rewriting.Said) (c : ℕ) (r : Report) → a.said ≡ m → c ≡ a.steps → r ≡ said_as m c → r ≡ rewriting_report a
-unfolding rewriting_report
-rewriting-by a m c r e ec h = h ∙ ap (said_as m) ec ∙ sym (ap (λ (x : rewriting.Said). said_as x a.steps) e)
-
-pub amount-fits : (a : engine.Answer) (m : rewriting.Said) → a.said ≡ m → Fits a → said_amount m < 4294967296
-amount-fits a m e h = subst (λ (x : rewriting.Said). said_amount x < 4294967296) e h.amount
-
 value-const : (v : Val) → const_number (const_of v) ≡ base_number v
 value-const (base zero_b) = refl
 value-const (base true_b) = refl
@@ -134,22 +126,25 @@ rewriter-fits p s read room n t hr hn =
     by_said out_of_steps e = omega arith
     by_said too_big e = omega arith
 
-module _ {asked st own ar : List ℕ} (l : Lent asked st own ar) (si oi : List Span) (ei : si ≡ index_of st) (ej : oi ≡ index_of own) (room room' n n' : ℕ) (er : room' ≡ room) (en : n' ≡ n)
-    (f f' : List ℕ) (a : engine.Answer) (ea : a ≡ answer_w (run_on ar st own si oi asked room' n')) (ef : f' ≡ over (padded room' (run_on ar st own si oi asked room' n').term) f) where
-  both : (a ≡ answer_of (rewriter (program_of l.book) room' n' l.term)) × (f' ≡ over (padded room' (last_words (program_of l.book) room' n' l.term)) f)
+module _ {p q : List ℕ} {c : Checked} (a : Accepts p q c) (x : Lists) (h : Lends a.checks.book x) (asked : List ℕ) (ea : asked ≡ question_words a.term) (room room' n n' : ℕ) (er : room' ≡ room) (en : n' ≡ n)
+    (f f' : List ℕ) (w : engine.Answer) (ew : w ≡ answer_w (run_by x asked room' n')) (ef : f' ≡ over (padded room' (run_by x asked room' n').term) f) where
+  abbrev P : Program
+  P = program_of a.checks.book
+
+  both : (w ≡ answer_of (rewriter P room' n' a.term)) × (f' ≡ over (padded room' (last_words P room' n' a.term)) f)
   unfolding question_words standing_words own_words
   both =
-      rewriter-on-bytes l.program l.question l.book l.term l.program_read l.question_read ar st own si oi asked (arities-are l) l.standing_list l.own_is ei ej l.asked_is
-      room' n' f f' a ea ef
+      rewriter-on-bytes p q a.checks.book a.term a.checks.program_read a.question_read x.arities.now x.standing.list.now x.own.list.now x.standing.index.now x.own.index.now asked (arities-are a x h) h.standing_is h.own_is h.standing_indexed h.own_indexed ea
+      room' n' f f' w ew ef
 
-  answer-is : a ≡ answer_of (rewriter (program_of l.book) room n l.term)
-  answer-is = both.0 ∙ ap₂ (λ (i j : ℕ). answer_of (rewriter (program_of l.book) i j l.term)) er en
+  answer-is : w ≡ answer_of (rewriter P room n a.term)
+  answer-is = both.0 ∙ ap₂ (λ (i j : ℕ). answer_of (rewriter P i j a.term)) er en
 
-  pub rewriter-answers : (r : Report) → r ≡ rewriting_report a → r ≡ answer_report (rewriter (program_of l.book) room n l.term)
-  rewriter-answers r e = e ∙ ap rewriting_report answer-is ∙ rewriting-report (rewriter (program_of l.book) room n l.term) (rewriter-not-deep (program_of l.book) room n l.term)
+  pub rewriter-answers : (r : Report) → r ≡ rewriting_report w → r ≡ answer_report (rewriter P room n a.term)
+  rewriter-answers r e = e ∙ ap rewriting_report answer-is ∙ rewriting-report (rewriter P room n a.term) (rewriter-not-deep P room n a.term)
 
-  pub rewriter-first : f' ≡ over (padded room (last_words (program_of l.book) room n l.term)) f
-  rewriter-first = both.1 ∙ ap₂ (λ (i j : ℕ). over (padded i (last_words (program_of l.book) i j l.term)) f) er en
+  pub rewriter-first : f' ≡ over (padded room (last_words P room n a.term)) f
+  rewriter-first = both.1 ∙ ap₂ (λ (i j : ℕ). over (padded i (last_words P i j a.term)) f) er en
 
-  pub answer-fits : room ≤ 4096 → n ≤ 1000000 → Fits a
-  answer-fits hr hn = subst Fits (sym answer-is) (rewriter-fits l.program l.book l.program_read room n l.term hr hn)
+  pub answer-fits : room ≤ 4096 → n ≤ 1000000 → Fits w
+  answer-fits hr hn = subst Fits (sym answer-is) (rewriter-fits p a.checks.book a.checks.program_read room n a.term hr hn)

@@ -4,8 +4,7 @@ use Prim.Native.Nat.{ℕ, ◌≤◌, ◌<◌}
 use mathlib.Core.Path.{◌≡◌, refl, sym, ap, ◌∙◌}
 use mathlib.Core.Logic.{◌↔◌, ◌≢◌, ◌⊎◌, inl, inr}
 use mathlib.Core.Bool.{Bool, true, false}
-use mathlib.Core.List.{List, [], ◌∷◌}
-use native.Mathlib.Omega.{arith}
+use mathlib.Core.List.{List}
 use lib.Dec.{leb}
 use lib.ListN.{length, get_or, take, drop}
 use borrow.Author.Tests.{leb-true, leb-false, le-leb}
@@ -18,21 +17,15 @@ use Rattle.bridge.specs.declared.report.Report.{Report}
 use Rattle.bridge.specs.Report.{about_number, refusal_report, report_of, report_words}
 use Rattle.bridge.specs.Calls.{told, Leaves, Opens}
 use Rattle.bridge.specs.Demanded.{IsAnswer, Refuses, Answers, report_in, Told}
-use Rattle.bridge.proofs.Telling.{told-short, opened-long, opened-short}
+use Rattle.words.proofs.Writes.{over-is}
+use Rattle.bridge.proofs.Telling.{told_short, opened-long, opened-short}
 use Rattle.bridge.proofs.Calls.{evaluate-report-refuses, evaluate-report-answers, evaluate-report-answers-exactly, evaluate-report-12-exactly, evaluate-report-never-13, evaluate-report-as-read-exactly, rewrite-report-refuses, rewrite-report-answers, rewrite-report-answers-exactly, rewrite-report-12-exactly, rewrite-report-13-exactly, rewrite-report-as-read-exactly, larger-allowances-evaluate-report, larger-allowances-rewrite-report, reports-agree}
 
 -- THE REPORT'S WORDS
 seven-words : (r : Report) (d : List ℕ) → 7 ≤ length d
     → (take 7 (over (report_words r) d) ≡ report_words r) × (report_in (over (report_words r) d) ≡ r) × (drop 7 (over (report_words r) d) ≡ drop 7 d)
 unfolding report_words
-seven-words r [] h = absurd (omega arith)
-seven-words r (a ∷ []) h = absurd (omega arith)
-seven-words r (a ∷ b ∷ []) h = absurd (omega arith)
-seven-words r (a ∷ b ∷ c ∷ []) h = absurd (omega arith)
-seven-words r (a ∷ b ∷ c ∷ x ∷ []) h = absurd (omega arith)
-seven-words r (a ∷ b ∷ c ∷ x ∷ e ∷ []) h = absurd (omega arith)
-seven-words r (a ∷ b ∷ c ∷ x ∷ e ∷ f ∷ []) h = absurd (omega arith)
-seven-words r (a ∷ b ∷ c ∷ x ∷ e ∷ f ∷ g ∷ d) h = (refl, refl, refl)
+seven-words r d h = let e = over-is (report_words r) d h in (ap (take 7) e, ap report_in e, ap (drop 7) e)
 
 pub seven-words-told : (w : Reply) (d d' : List ℕ) → 7 ≤ length d → d' ≡ told w d → Told w d d'
 unfolding told
@@ -42,7 +35,7 @@ seven-words-told w d d' h e =
     record { words_are = ap (take 7) k ∙ s.0; read_back = ap report_in k ∙ s.1; past_them = ap (drop 7) k ∙ s.2 }
 
 pub short-report-untouched : (w : Reply) (d d' : List ℕ) → length d < 7 → d' ≡ told w d → d' ≡ d
-short-report-untouched w d d' h e = e ∙ sym (told-short w d h)
+short-report-untouched w d d' h e = e ∙ sym (told_short w d h)
 
 -- THE FOUR SLICES of the rewriter's call
 module _ (w : Rewritten) (own first second d own' first' second' d' : List ℕ) (o : Opens w own first second d own' first' second' d') where

@@ -1,4 +1,4 @@
--- A program and a question that are accepted, with the checker's answer on the program; and the words that an engine is lent for them.
+-- A program and a question that are accepted, with the checker's answer on the program; and what an engine is lent for them.
 use Rattle.std.specs.Prelude.{◌≡◌, List, [], replicate, ℕ}
 use Rattle.theory.specs.Syntax.{Term}
 use Rattle.theory.specs.Builtins.{fun_of}
@@ -11,6 +11,8 @@ use Rattle.theory.specs.Buffers.{over, padded}
 use Rattle.theory.specs.Answers.{last_words}
 use Rattle.checker.specs.declared.Checked.{Checked}
 use Rattle.checker.specs.Answer.{checked_as, table}
+use Rattle.rules.specs.Index.{index_of}
+use Rattle.rules.specs.declared.lists.Lists.{Lists}
 use Rattle.bridge.specs.declared.report.Report.{Report}
 use Rattle.bridge.specs.Report.{answer_report}
 
@@ -26,11 +28,6 @@ pub record Accepts (p q : List ℕ) (c : Checked) : Type 0 where
   pub term : Term
   pub question_read : read_question checks.book.decls q ≡ good term
 
--- q is a question for some program on which c is the answer
-pub record Asks (q : List ℕ) (c : Checked) : Type 0 where
-  pub program : List ℕ
-  pub accepts : Accepts program q c
-
 -- the words of the own list, and of the question
 unfoldable pub own_words : Book → List ℕ
 own_words s = stored_rules (own_list (program_of s))
@@ -41,23 +38,13 @@ question_words t = words (tree t)
 unfoldable pub standing_words : List ℕ
 standing_words = stored_rules (translation.standing (fun_of []))
 
--- the same, and `own` is the program's own list
-pub record Listed (q : List ℕ) (c : Checked) (own : List ℕ) : Type 0 where
-  pub asks : Asks q c
-  pub own_is : own ≡ own_words asks.accepts.checks.book
-
--- an engine's four lists are those of some accepted program and question
-pub record Lent (asked standing own arities : List ℕ) : Type 0 where
-  pub program : List ℕ
-  pub question : List ℕ
-  pub book : Book
-  pub term : Term
-  pub program_read : read_program program ≡ good book
-  pub question_read : read_question book.decls question ≡ good term
-  pub asked_is : asked ≡ question_words term
-  pub standing_list : standing ≡ standing_words
-  pub own_is : own ≡ own_words book
-  pub arity_table : arities ≡ table book.decls.arities
+-- the lists that an engine is lent are those of the program that was read, each with its index
+pub record Lends (s : Book) (l : Lists) : Type 0 where
+  pub arity_table : l.arities.now ≡ table s.decls.arities
+  pub standing_is : l.standing.list.now ≡ standing_words
+  pub standing_indexed : l.standing.index.now ≡ index_of l.standing.list.now
+  pub own_is : l.own.list.now ≡ own_words s
+  pub own_indexed : l.own.index.now ≡ index_of l.own.list.now
 
 -- the rewriter has run: its report, and the two buffers, which were `first` and `second`
 pub record Runs {p q : List ℕ} {c : Checked} (a : Accepts p q c) (steps room : ℕ) (first second : List ℕ) (r : Report) (first' second' : List ℕ) : Type 0 where

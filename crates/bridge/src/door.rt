@@ -9,19 +9,15 @@ use crate::report::Report;
 use crate::{evaluate, rewrite};
 
 // A report's words into the first seven of a slice.
+#[tactic(auto, using(crate::proofs::Telling::words_told))]
 fn tell(report: &mut [u32], r: Report)
     requires { 7 ≤ length report.old }
     ensures { report.new ≡ over (report_words r) report.old }
 {
-    report[0] = r.number;
-    report[1] = r.about;
-    report[2] = r.place;
-    report[3] = r.ending;
-    report[4] = r.amount;
-    report[5] = r.base;
-    report[6] = r.steps;
+    report[..7].copy_from_slice(&<[u32; 7]>::from(r));
 }
 
+#[tactic(auto, using(crate::proofs::Telling::told_short, crate::proofs::Telling::told_long))]
 pub fn puffinest_evaluate(
     program: &[u8],
     question: &[u8],

@@ -1,11 +1,11 @@
 // Refusals 1 to 13 and 17 but for the own list's: the program's, then the question's, then the allowances' and the buffers'.
-ghost use Rattle.std.specs.Prelude.{◌≡◌, ◌<◌};
+ghost use Rattle.std.specs.Prelude.{◌≡◌, ◌<◌, Err, IfOk, IfErr};
 ghost use Rattle.checker.specs.Refusal.{number_of};
 ghost use Rattle.bridge.specs.Report.{refusal_report};
 ghost use Rattle.bridge.specs.Judged.{judged_as, allowances, buffers_hold, limit_of};
 
+use crate::accepted::Accepted;
 use crate::report::{Report, refused};
-use checker::Checked;
 use checker::refusal::Refusal;
 
 // The checker's refusal as a report.
@@ -14,26 +14,27 @@ fn report_of(refusal: Refusal, about: u32) -> Report
     ensures { result ≡ refusal_report (number_of refusal.reason) about refusal.place }
 {
     refused(
-        u32::from(refusal.reason.number()),
+        u32::from(u8::from(refusal.reason)),
         about,
         refusal.place as u32,
     )
 }
 
-// Refusals 1 to 11 and 17, whatever the bytes; or what is read of the program, where it and the question are accepted.
-pub fn judge(program: &[u8], question: &[u8]) -> Result<Checked, Report>
-    ensures { result ≡ judged_as program.now question.now }
+// Refusals 1 to 11 and 17, whatever the bytes; or both, where they are accepted.
+pub fn judge<'a>(program: &'a [u8], question: &'a [u8]) -> Result<Accepted<'a>, Report>
+    ensures accepted { IfOk result (λ a. (a.program ≡ program.entry) × (a.question ≡ question.entry)) }
+    ensures refused { IfErr result (λ r. Err r ≡ judged_as program.now question.now) }
 {
-    let checked = match checker::check_program(program) {
-        Ok(checked) => checked,
-        Err(refusal) => return Err(report_of(refusal, 1)),
-    };
-    let arities = checked.arities;
-    let end = 16 + checked.functions;
-    match checker::check_question(question, checked.exceptions, &arities[16..end]) {
-        Ok(()) => Ok(checked),
-        Err(refusal) => Err(report_of(refusal, 2)),
-    }
+    let checked = checker::check_program(program).map_err(|refusal| report_of(refusal, 1))?;
+    let declared = checked.own_arities();
+    checker::check_question(question, checked.exceptions, declared).map_err(|refusal| report_of(
+        refusal, 2,
+    ))?;
+    Ok(Accepted {
+        program,
+        question,
+        checked,
+    })
 }
 
 // Whether the steps are within 1,000,000, and the levels or the room from 1 to their most.

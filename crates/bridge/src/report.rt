@@ -1,6 +1,6 @@
 // A report: document 01's numbers for what a call answers. A number without meaning is 0.
-ghost use Rattle.std.specs.Prelude.{◌≡◌, ◌<◌};
-ghost use Rattle.bridge.specs.Report.{const_number, refusal_report, ending_report};
+ghost use Rattle.std.specs.Prelude.{◌≡◌, ◌<◌, eqb, not};
+ghost use Rattle.bridge.specs.Report.{const_number, refusal_report, ending_report, report_words};
 
 use words::base::Base;
 
@@ -19,6 +19,36 @@ pub struct Report {
     pub steps: u32,
 }
 
+impl Report {
+    // Whether the call refused: an answer has the number 0.
+    pub fn is_refusal(self) -> bool
+        ensures { result ≡ not (eqb self.number 0) }
+    {
+        self.number != 0
+    }
+}
+
+// Its words, in the order in which C reads them.
+impl From<Report> for [u32; 7] {
+    ghost from_gives = { λ report words. words ≡ report_words report };
+
+    #[tactic(auto, unfolding(crate::specs::Report::report_words))]
+    fn from(report: Report) -> [u32; 7]
+        ensures { result ≡ report_words report }
+    {
+        [
+            report.number,
+            report.about,
+            report.place,
+            report.ending,
+            report.amount,
+            report.base,
+            report.steps,
+        ]
+    }
+}
+
+#[tactic(auto, unfolding(crate::specs::Report::refusal_report))]
 pub fn refused(number: u32, about: u32, place: u32) -> Report
     ensures { result ≡ refusal_report number about place }
 {
@@ -33,6 +63,7 @@ pub fn refused(number: u32, about: u32, place: u32) -> Report
     }
 }
 
+#[tactic(auto, unfolding(crate::specs::Report::ending_report))]
 pub fn ended(ending: u32, amount: u32, base: u32, steps: u32) -> Report
     ensures { result ≡ ending_report ending amount base steps }
 {

@@ -75,17 +75,17 @@ module _ (ws : List ℕ) where
       good-settled s t i k (all-stand ws s a.0 a.1)
 
   module _ (short : length ws ≤ 8192) where
-    pub program-refused : (e : Refusal) → Err e ≡ parse_of ws → Err e ≡ checked_of (read_program ws)
+    pub program_stops : (e : Refusal) → Err e ≡ parse_of ws → Err e ≡ checked_of (read_program ws)
     unfolding read_program
-    program-refused e h = rw (le-leb (length ws) 8192 short) (joined-refused (read_records (suc (length ws)) empty_book 0 ws) e (h ∙ parse-is ws))
+    program_stops e h = rw (le-leb (length ws) 8192 short) (joined-refused (read_records (suc (length ws)) empty_book 0 ws) e (h ∙ parse-is ws))
 
-    pub program-settled : (t : Top) → Ok t ≡ parse_of ws → Kept t → settled t (first_clash ws (own_arities t) [] (own_openings t)) ≡ checked_of (read_program ws)
+    pub program_settled : (t : Top) → Ok t ≡ parse_of ws → Kept t → settled t (first_clash ws (own_arities t) [] (own_openings t)) ≡ checked_of (read_program ws)
     unfolding read_program
-    program-settled t h k = rw (le-leb (length ws) 8192 short) (joined-settled (read_records (suc (length ws)) empty_book 0 ws) t refl (h ∙ parse-is ws) k)
+    program_settled t h k = rw (le-leb (length ws) 8192 short) (joined-settled (read_records (suc (length ws)) empty_book 0 ws) t refl (h ∙ parse-is ws) k)
 
-pub program-long : (ws : List ℕ) → 8192 < length ws → refuse ProgramTooLong 0 ≡ checked_of (read_program ws)
+pub program_long : (ws : List ℕ) → 8192 < length ws → refuse ProgramTooLong 0 ≡ checked_of (read_program ws)
 unfolding read_program checked_of
-program-long ws h = rw (lt-leb (length ws) 8192 h)
+program_long ws h = rw (lt-leb (length ws) 8192 h)
 
 -- the verdict on a question, from its scan
 module _ (n : ℕ) (ns ws : List ℕ) where
@@ -124,15 +124,15 @@ module _ (n : ℕ) (ns ws : List ℕ) where
       let h = scan-is-side n ns ws (suc (length ws)) in_question 1 0 0 in
       (h.0 ∙ scan-fuel n ns ws (suc (length ws)) (suc (length ws - 0)) Asked no_vars 1 0 0 (omega arith) (omega arith) ∙ sym scanned, h.1)
 
-  pub asked-refused : (e : Refusal) → Err e ≡ scan_from n ns ws Asked no_vars 1 0 0 → Err e ≡ verdict_of (read_question (declared n ns) ws)
+  pub asked_refused : (e : Refusal) → Err e ≡ scan_from n ns ws Asked no_vars 1 0 0 → Err e ≡ verdict_of (read_question (declared n ns) ws)
   unfolding read_question
-  asked-refused e h = ended-refused (read_side (declared n ns) (suc (length ws)) in_question 1 0 0 ws) e (asked-same (Err e) h)
+  asked_refused e h = ended-refused (read_side (declared n ns) (suc (length ws)) in_question 1 0 0 ws) e (asked-same (Err e) h)
 
   module _ (o : Side) (scanned : Ok o ≡ scan_from n ns ws Asked no_vars 1 0 0) where
-    pub asked-more : o.at < length ws → refuse BytesLeftOver o.at ≡ verdict_of (read_question (declared n ns) ws)
+    pub asked_more : o.at < length ws → refuse BytesLeftOver o.at ≡ verdict_of (read_question (declared n ns) ws)
     unfolding read_question
-    asked-more l = ended-more o (read_side (declared n ns) (suc (length ws)) in_question 1 0 0 ws) (asked-same (Ok o) scanned) l
+    asked_more l = ended-more o (read_side (declared n ns) (suc (length ws)) in_question 1 0 0 ws) (asked-same (Ok o) scanned) l
 
-    pub asked-good : length ws ≤ o.at → Ok tt ≡ verdict_of (read_question (declared n ns) ws)
+    pub asked_good : length ws ≤ o.at → Ok tt ≡ verdict_of (read_question (declared n ns) ws)
     unfolding read_question
-    asked-good l = ended-good o (read_side (declared n ns) (suc (length ws)) in_question 1 0 0 ws) (asked-same (Ok o) scanned) l
+    asked_good l = ended-good o (read_side (declared n ns) (suc (length ws)) in_question 1 0 0 ws) (asked-same (Ok o) scanned) l

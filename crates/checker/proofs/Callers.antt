@@ -73,15 +73,15 @@ question-number n ns ws r h =
     reason-number r.number (inl (omega (arith, low), high))
 
 -- the reasons have theory's numbers
-pub program-same : (ws : List ℕ) → SameNumber (read_program ws)
-program-same ws = by_answer (read_program ws) refl
+pub program_same : (ws : List ℕ) → SameNumber (read_program ws)
+program_same ws = by_answer (read_program ws) refl
   where
     by_answer : (o : Bytes.Result Book) → read_program ws ≡ o → SameNumber o
     by_answer (refused r) h = program-number ws r h
     by_answer (good s) h = tt
 
-pub question-same : (n : ℕ) (ns ws : List ℕ) → SameNumber (read_question (declared n ns) ws)
-question-same n ns ws = by_answer (read_question (declared n ns) ws) refl
+pub question_same : (n : ℕ) (ns ws : List ℕ) → SameNumber (read_question (declared n ns) ws)
+question_same n ns ws = by_answer (read_question (declared n ns) ws) refl
   where
     by_answer : (o : Bytes.Result Term) → read_question (declared n ns) ws ≡ o → SameNumber o
     by_answer (refused r) h = question-number n ns ws r h

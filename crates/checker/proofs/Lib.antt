@@ -2,4 +2,6 @@
 pub mod Callers
 pub mod Rules
 mod Answer
+mod Position
+pub mod Errors
 pub mod Table

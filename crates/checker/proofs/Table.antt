@@ -48,9 +48,9 @@ declared-arity f [] rs k = refl
 declared-arity f (a ∷ ns) rs zero = refl
 declared-arity f (a ∷ ns) rs (suc k) = declared-arity (suc f) ns rs k
 
-pub table-builtin : (ns : List ℕ) (k : ℕ) → k < 16 → get_or (table ns) k 0 ≡ (nth_fun builtin_funs k).arity
+pub table_builtin : (ns : List ℕ) (k : ℕ) → k < 16 → get_or (table ns) k 0 ≡ (nth_fun builtin_funs k).arity
 unfolding table
-table-builtin ns k h = get_or-append builtins (padded 32 ns) 0 k h ∙ zeros-behind (arities_in builtin_funs) (16 - length builtin_funs) k ∙ arity-at builtin_funs k
+table_builtin ns k h = get_or-append builtins (padded 32 ns) 0 k h ∙ zeros-behind (arities_in builtin_funs) (16 - length builtin_funs) k ∙ arity-at builtin_funs k
 
 table-declared : (ns : List ℕ) → length ns ≤ 32 → (k : ℕ) → get_or (table ns) (16 + k) 0 ≡ get_or ns k 0
 unfolding table
@@ -71,7 +71,7 @@ module _ (p : List ℕ) (s : Book) (read : read_program p ≡ good s) where
       fs = funs_of 0 ns s.rules_at
 
       by_kind : (b : Bool) → ltb k 16 ≡ b → get_or (table ns) k 0 ≡ (pick b (nth_fun builtin_funs k) (nth_fun fs (k - 16))).arity
-      by_kind true e = table-builtin ns k (ltb-true k 16 e)
+      by_kind true e = table_builtin ns k (ltb-true k 16 e)
       by_kind false e =
           let h = ltb-false k 16 e in
           let z : k ≡ 16 + (k - 16) = omega arith in
@@ -83,6 +83,6 @@ module _ (p : List ℕ) (s : Book) (read : read_program p ≡ good s) where
   pub table-agrees : Agrees s.decls (table s.decls.arities)
   table-agrees =
       record {
-        builtin = λ b h. table-builtin s.decls.arities b (omega arith);
+        builtin = λ b h. table_builtin s.decls.arities b (omega arith);
         declared = λ f h. table-declared s.decls.arities (functions-most p s read) f ∙ sym (nth-get_d s.decls.arities f);
       }

@@ -1,5 +1,5 @@
 -- A term's record by its kind and body.
-use Rattle.std.specs.Prelude.{ℕ, ◌≤◌, ◌*◌, ◌<◌, List, leb, ltb, length, get_or, Result, Ok, Err}
+use Rattle.std.specs.Prelude.{ℕ, List, leb, ltb, length, get_or, Result, Ok, Err}
 use Rattle.theory.specs.Bytes
 use Rattle.theory.specs.Bytes.{refused, good, TermRecord, constant_record, succ_record, if_record, variable_record, raise_record, handle_record, call_record, term_record}
 use Rattle.theory.specs.Builtins.{builtin_funs, last_called, nth_fun}
@@ -41,10 +41,3 @@ function_node ns b = pick (ltb b (length ns)) (Ok (Inner (get_or ns b 0) 1)) (Er
 -- the variable b
 unfoldable pub variable_node : ℕ → Result Node Reason
 variable_node b = pick (leb b 7) (Ok (Variable b)) (Err WrongNumber)
-
--- a variable is one of eight, an arity is a byte, and no record has more than two words
-abbrev pub SmallNode : Node → Type 0
-SmallNode Leaf = Unit {0}
-SmallNode Succ = Unit {0}
-SmallNode (Variable x) = x < 8
-SmallNode (Inner p w) = (p ≤ 255 * w) × (w < 3)

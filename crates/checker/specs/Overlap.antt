@@ -15,18 +15,18 @@ heads_meet (a ∷ as') (b ∷ bs) =
     choose (eqb a 0x14) (λ u. true)
     (λ u. choose (eqb b 0x14) (λ u. true) (λ u. choose (eqb a b) (λ u. choose (eqb a 0x11) (λ u. heads_meet as' bs) (λ u. true)) (λ u. false)))
 
-module _ (ws : List ℕ) where
-  -- whether the n patterns from the place i on and the n from j on meet one by one
-  unfoldable pub args_meet : ℕ → ℕ → ℕ → Bool
-  args_meet zero i j = true
-  args_meet (suc n) i j = choose (heads_meet (drop i ws) (drop j ws)) (λ u. args_meet n (i + pat_len (drop i ws)) (j + pat_len (drop j ws))) (λ u. false)
+-- whether the n patterns at the two heads meet one by one
+unfoldable pub args_meet : ℕ → List ℕ → List ℕ → Bool
+args_meet zero xs ys = true
+args_meet (suc n) xs ys = choose (heads_meet xs ys) (λ u. args_meet n (drop (pat_len xs) xs) (drop (pat_len ys) ys)) (λ u. false)
 
+module _ (ws : List ℕ) where
   -- whether the rules opened at o and at q are of one function and have left sides that meet; ns are the functions' arities
   unfoldable pub clash_at : List ℕ → ℕ → ℕ → Bool
   clash_at ns o q =
       choose (leb (length ws) o) (λ u. false)
       (λ u. choose (leb (length ws) q) (λ u. false)
-      (λ u. choose (eqb (get_or ws (o + 1) 0) (get_or ws (q + 1) 0)) (λ u. args_meet (get_or ns (get_or ws (q + 1) 0) 0) (o + 2) (q + 2)) (λ u. false)))
+      (λ u. choose (eqb (get_or ws (o + 1) 0) (get_or ws (q + 1) 0)) (λ u. args_meet (get_or ns (get_or ws (q + 1) 0) 0) (drop (o + 2) ws) (drop (q + 2) ws)) (λ u. false)))
 
   -- whether the rule opened at q clashes with one of those opened at os
   unfoldable pub any_clash : List ℕ → List ℕ → ℕ → Bool

@@ -1,7 +1,7 @@
 -- A program's records, one turn a record: its rules, its end, and what is answered then. `Bytes` of the theory says what is right; proofs/ shows that the turns come to the same.
 use Rattle.std.specs.Prelude.{ℕ, zero, suc, ◌+◌, Bool, true, List, [], ◌∷◌, length, take, get_or, set, eqb, ltb, Option, Some, None, option_map, Result, Ok, Err}
 use Rattle.theory.specs.Bytes
-use Rattle.theory.specs.Bytes.{refused, good, RuleAt, Book, rule_count, has_rule, declared_at}
+use Rattle.theory.specs.Bytes.{refused, good, RuleAt, Book, has_rule, declared_at}
 use Rattle.theory.specs.Syntax.{choose}
 use Rattle.checker.specs.declared.side.Stand.TheVariants.{Left, Right}
 use Rattle.checker.specs.declared.side.Side.{Side}
@@ -13,8 +13,7 @@ use Rattle.checker.specs.declared.refusal.Reason.TheVariants.{BytesEnd, KindNotA
 use Rattle.checker.specs.declared.refusal.Refusal.{Refusal}
 use Rattle.checker.specs.Refusal.{refuse, refusal_of}
 use Rattle.record.specs.declared.Record.{Record}
-use Rattle.checker.specs.Answer.{declared, padded, table}
-use Rattle.theory.specs.Bytes.{opened_at}
+use Rattle.checker.specs.Answer.{declared, checked_as}
 use Rattle.record.specs.Record.{record_at}
 use Rattle.checker.specs.Side.{no_vars, scan_from}
 use Rattle.checker.specs.Declarations.{at_end, start_top, own_arities, own_ruled, exception_turn, function_turn}
@@ -22,7 +21,7 @@ use Rattle.checker.specs.Declarations.{at_end, start_top, own_arities, own_ruled
 -- one rule more, of the function f, opened where the turn began, and on from the place q
 abbrev pub with_rule : Top → ℕ → ℕ → Top
 with_rule t f q =
-    record { place = q; stage = Rules; exceptions = t.exceptions; functions = t.functions; rules = t.rules + 1; arities = t.arities; openings = set t.openings t.rules t.place; ruled = set t.ruled f true }
+    record { place = q; stage = Rules; read = record { exceptions = t.read.exceptions; functions = t.read.functions; rules = t.read.rules + 1; arities = t.read.arities; openings = set t.read.openings t.read.rules t.place }; ruled = set t.ruled f true }
 
 -- what the right side of a rule of the function f makes of a turn
 unfoldable pub right_turn : Top → ℕ → Result Side Refusal → Result Top Refusal
@@ -38,18 +37,17 @@ module _ (ws : List ℕ) where
   -- the two sides of a rule of the function f, from q on
   unfoldable pub sides_turn : Top → ℕ → ℕ → Result Top Refusal
   sides_turn t f q =
-      left_turn t f (scan_from t.exceptions (own_arities t) ws Left no_vars (get_or (own_arities t) f 0) 1 q)
-      (λ s p. scan_from t.exceptions (own_arities t) ws Right s 1 0 p)
+      left_turn t f (scan_from t.read.exceptions (own_arities t) ws Left no_vars (get_or (own_arities t) f 0) 1 q)
+      (λ s p. scan_from t.read.exceptions (own_arities t) ws Right s 1 0 p)
 
   -- the record that opens a rule of the function b: 9 past sixty-four, 4 if it is not declared
   unfoldable pub rule_turn : Top → ℕ → ℕ → Result Top Refusal
   rule_turn t b q =
-      choose (ltb t.rules 64) (λ u. choose (ltb b t.functions) (λ u. sides_turn t b q) (λ u. refuse WrongNumber t.place)) (λ u. refuse PastCeiling t.place)
+      choose (ltb t.read.rules 64) (λ u. choose (ltb b t.read.functions) (λ u. sides_turn t b q) (λ u. refuse WrongNumber t.place)) (λ u. refuse PastCeiling t.place)
 
 -- read to the end
 abbrev pub ended : Top → Top
-ended t =
-    record { place = 0; stage = End; exceptions = t.exceptions; functions = t.functions; rules = t.rules; arities = t.arities; openings = t.openings; ruled = t.ruled }
+ended t = record { place = 0; stage = End; read = t.read; ruled = t.ruled }
 
 -- what comes after a turn, if it is not refused
 abbrev pub on_turn : (Top → Result Top Refusal) → Result Top Refusal → Result Top Refusal
@@ -63,7 +61,7 @@ lost_from (b ∷ bs) = choose b (λ u. option_map suc (lost_from bs)) (λ u. Som
 
 -- 17 if a function has no rule
 abbrev pub or_lost : Top → Option ℕ → (Unit {0} → Result Top Refusal) → Result Top Refusal
-or_lost t (Some f) go = refuse FunctionWithoutRule (declared_at (declared t.exceptions (own_arities t)) f)
+or_lost t (Some f) go = refuse FunctionWithoutRule (declared_at (declared t.read.exceptions (own_arities t)) f)
 or_lost t None go = go tt
 
 -- the end record, of which the place q is the first behind it: 17 first, then 11 if there is a byte
@@ -101,8 +99,7 @@ marks (suc n) f rs = has_rule f rs ∷ marks n (suc f) rs
 
 -- what the code keeps of the theory's book, at the place p and the stage g
 unfoldable pub top_at : Book → Stage → ℕ → Top
-top_at s g p =
-    record { place = p; stage = g; exceptions = s.decls.exceptions; functions = length s.decls.arities; rules = rule_count s.rules_at; arities = table s.decls.arities; openings = padded 64 (opened_at s.rules_at); ruled = marks 32 0 s.rules_at }
+top_at s g p = record { place = p; stage = g; read = checked_as s; ruled = marks 32 0 s.rules_at }
 
 -- what the code keeps of what the theory read to the end
 unfoldable pub top_of : Bytes.Result Book → Result Top Refusal
@@ -111,9 +108,9 @@ top_of (good s) = Ok (top_at s End 0)
 
 -- the openings that are in use
 unfoldable pub own_openings : Top → List ℕ
-own_openings t = take t.rules t.openings
+own_openings t = take t.read.rules t.read.openings
 
 -- what was read, unless two of its rules clash
 unfoldable pub settled : Top → Option ℕ → Result Checked Refusal
 settled t (Some q) = refuse RulesOverlap q
-settled t None = Ok (record { exceptions = t.exceptions; functions = t.functions; rules = t.rules; arities = t.arities; openings = t.openings })
+settled t None = Ok t.read

@@ -1,5 +1,5 @@
 -- A term's records one after another, on a left side, on a right side or in a question: the variables seen stand as eight booleans, and no list of records is kept. `Bytes` of the theory says what is right; proofs/ shows that the scan is the same.
-use Rattle.std.specs.Prelude.{ℕ, zero, suc, ◌+◌, ◌≤◌, ◌-◌, ◌*◌, ◌<◌, Bool, true, false, List, [], ◌∷◌, length, get_or, set, leb, Option, Some, None, Result, Ok, Err}
+use Rattle.std.specs.Prelude.{ℕ, zero, suc, ◌+◌, ◌-◌, Bool, true, false, List, [], ◌∷◌, length, get_or, set, leb, Option, Some, None, Result, Ok, Err}
 use Rattle.theory.specs.Bytes.{Where, on_left, on_right, in_question, refused, good, TermRecord, constant_record, succ_record, if_record, variable_record, raise_record, handle_record, call_record, record_parts, record_words}
 use Rattle.theory.specs.Bytes
 use Rattle.theory.specs.Syntax.{elem, choose, pick}
@@ -14,10 +14,6 @@ use Rattle.checker.specs.declared.refusal.Refusal.{Refusal}
 use Rattle.checker.specs.Refusal.{reason_of, refuse, refusal_of}
 use Rattle.record.specs.Record.{record_at}
 use Rattle.checker.specs.Node.{tok_at}
-
--- an arity is a byte, and no record has more than two words
-abbrev pub SmallStep : Step → Type 0
-SmallStep r = (r.parts ≤ 255 * r.words) × (r.words < 3)
 
 -- a record that is let in, with p parts and w words
 abbrev pub passed : ℕ → ℕ → List Bool → Step
@@ -61,6 +57,12 @@ unfoldable pub most_of : Stand → ℕ
 most_of Left = 32
 most_of Right = 128
 most_of Asked = 512
+
+-- the words that count before any is read: on a left side that of the function
+abbrev pub base_of : Stand → ℕ
+base_of Left = 1
+base_of Right = 0
+base_of Asked = 0
 
 -- no variable seen
 abbrev pub no_vars : List Bool

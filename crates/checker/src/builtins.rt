@@ -1,5 +1,5 @@
 // The arities by function number before anything is declared: the built-ins', said here and nowhere else in the code.
-ghost use Rattle.std.specs.Prelude.{◌≡◌, [], ◌≤◌, ◌<◌};
+ghost use Rattle.std.specs.Prelude.{◌≡◌, [], ◌<◌};
 ghost use Rattle.theory.specs.Builtins.{nth_fun, builtin_funs};
 ghost use Rattle.checker.specs.Answer.{table};
 
@@ -10,7 +10,7 @@ const ARITIES: [u8; 48] = [
 ];
 
 // A program or a question may call the built-ins up to this one.
-pub const LAST_CALLED: usize = 10;
+pub const LAST_CALLED: u8 = 10;
 
 #[tactic(auto, unfolding(crate::specs::Answer::table, crate::specs::Answer::padded))]
 pub fn start_arities() -> [u8; 48]
@@ -20,11 +20,10 @@ pub fn start_arities() -> [u8; 48]
 }
 
 // The arity of a built-in.
-pub fn builtin_arity(b: usize) -> usize
+#[tactic(auto, using(crate::proofs::Table::table_builtin))]
+pub fn builtin_arity(b: u8) -> u8
     requires { b < 16 }
-    ensures value { result ≡ (nth_fun builtin_funs b).arity }
-    ensures small { result < 256 }
+    ensures { result ≡ (nth_fun builtin_funs b).arity }
 {
-    let arities = start_arities();
-    usize::from(arities[b])
+    start_arities()[usize::from(b)]
 }

@@ -1,6 +1,6 @@
 // A term's record by its kind and body, wherever the term stands.
-ghost use Rattle.std.specs.Prelude.{◌≡◌, ℕ, ◌≤◌, IfOk};
-ghost use Rattle.checker.specs.Node.{tok_at, node_of, exception_node, builtin_node, function_node, variable_node, SmallNode};
+ghost use Rattle.std.specs.Prelude.{◌≡◌, ℕ};
+ghost use Rattle.checker.specs.Node.{tok_at, node_of, exception_node, builtin_node, function_node, variable_node};
 
 use crate::builtins::{LAST_CALLED, builtin_arity};
 use crate::refusal::Reason;
@@ -11,22 +11,20 @@ use record::Kind;
 pub enum Node {
     Leaf,
     Succ,
-    Variable(usize),
-    Inner { parts: usize, words: usize },
+    Variable(u8),
+    Inner { parts: u8, words: u8 },
 }
 
 // A call of a built-in.
 #[tactic(auto, unfolding(crate::specs::Node::builtin_node))]
 fn of_builtin(body: u8) -> Result<Node, Reason>
-    ensures value { result ≡ builtin_node body }
-    ensures small_node { IfOk result SmallNode }
+    ensures { result ≡ builtin_node body }
 {
-    let b = usize::from(body);
-    if LAST_CALLED < b {
+    if LAST_CALLED < body {
         return Err(Reason::WrongNumber);
     }
     Ok(Node::Inner {
-        parts: builtin_arity(b),
+        parts: builtin_arity(body),
         words: 1,
     })
 }
@@ -34,13 +32,12 @@ fn of_builtin(body: u8) -> Result<Node, Reason>
 // A variable.
 #[tactic(auto, unfolding(crate::specs::Node::variable_node))]
 fn of_variable(body: u8) -> Result<Node, Reason>
-    ensures value { result ≡ variable_node body }
-    ensures small_node { IfOk result SmallNode }
+    ensures { result ≡ variable_node body }
 {
     if 7 < body {
         return Err(Reason::WrongNumber);
     }
-    Ok(Node::Variable(usize::from(body)))
+    Ok(Node::Variable(body))
 }
 
 // What terms may name: so many exceptions, and declared functions of these arities.
@@ -53,10 +50,8 @@ pub struct Declared<'a> {
 impl<'a> Declared<'a> {
     // raise and handle, of an exception that is declared.
     #[tactic(auto, unfolding(crate::specs::Node::exception_node))]
-    fn of_exception(self, body: u8, parts: usize) -> Result<Node, Reason>
-        requires { parts ≤ 2 }
-        ensures value { result ≡ exception_node self.entry.exceptions body parts }
-        ensures small_node { IfOk result SmallNode }
+    fn of_exception(self, body: u8, parts: u8) -> Result<Node, Reason>
+        ensures { result ≡ exception_node self.entry.exceptions body parts }
     {
         if self.exceptions <= usize::from(body) {
             return Err(Reason::WrongNumber);
@@ -67,29 +62,21 @@ impl<'a> Declared<'a> {
     // A call of a declared function.
     #[tactic(auto, unfolding(crate::specs::Node::function_node))]
     fn of_function(self, body: u8) -> Result<Node, Reason>
-        ensures value { result ≡ function_node self.entry.arities.now body }
-        ensures small_node { IfOk result SmallNode }
+        ensures { result ≡ function_node self.entry.arities.now body }
     {
-        let f = usize::from(body);
-        if self.arities.len() <= f {
-            return Err(Reason::WrongNumber);
-        }
-        Ok(Node::Inner {
-            parts: usize::from(self.arities[f]),
-            words: 1,
-        })
+        let parts = *self
+            .arities
+            .get(usize::from(body))
+            .ok_or(Reason::WrongNumber)?;
+        Ok(Node::Inner { parts, words: 1 })
     }
 
     // The record of a term by the byte of its kind and its body.
-    #[tactic(auto, unfolding(crate::specs::Node::node_of, crate::specs::Node::tok_at, crate::specs::Node::variable_node, crate::specs::Node::exception_node, crate::specs::Node::builtin_node, crate::specs::Node::function_node))]
+    #[tactic(auto, unfolding(crate::specs::Node::node_of, crate::specs::Node::tok_at, crate::specs::Node::variable_node, crate::specs::Node::exception_node, crate::specs::Node::builtin_node, crate::specs::Node::function_node), using(crate::proofs::node::Laws::none_read))]
     pub fn node_of(self, kind: u8, body: u8) -> Result<Node, Reason>
-        ensures by_index { (p : ℕ) → result ≡ node_of (tok_at self.entry.exceptions self.entry.arities.now p kind body) }
-        ensures small_node { IfOk result SmallNode }
+        ensures { (p : ℕ) → result ≡ node_of (tok_at self.entry.exceptions self.entry.arities.now p kind body) }
     {
-        let Some(kind) = Kind::of(kind) else {
-            return Err(Reason::KindNotAllowed);
-        };
-        match kind {
+        match Kind::try_from(kind)? {
             Kind::Zero | Kind::True | Kind::False => Ok(Node::Leaf),
             Kind::Succ => Ok(Node::Succ),
             Kind::Variable => of_variable(body),

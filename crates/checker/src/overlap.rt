@@ -1,27 +1,24 @@
 // Refusal 10: two rules of one function whose left sides have a common instance.
-ghost use Rattle.std.specs.Prelude.{◌≡◌, [], ◌+◌, get_or, drop};
+ghost use Rattle.std.specs.Prelude.{◌≡◌, [], drop};
 ghost use Rattle.checker.specs.Overlap.{pat_len, heads_meet, args_meet, clash_at, any_clash, first_clash};
 
 use record::Kind;
+use words::slices::get_or;
 
 // The bytes of a succ, which a pattern follows, and of a variable, which has a body; the other patterns are one byte.
 const SUCC: u8 = Kind::Succ as u8;
 
 const VARIABLE: u8 = Kind::Variable as u8;
 
-// The place past the pattern that starts at `start`.
-fn past_pattern(bytes: &[u8], start: usize) -> usize
-    ensures { result ≡ start + pat_len (drop start bytes.now) }
+// How many bytes the pattern takes that these begin with: some succ, then a constant or a variable.
+fn pattern_len(bytes: &[u8]) -> usize
+    ensures { result ≡ pat_len bytes.now }
 {
-    for at in start..bytes.len() {
-        if bytes[at] == VARIABLE {
-            return at + 2;
-        }
-        if bytes[at] != SUCC {
-            return at + 1;
-        }
+    match bytes.iter().position(|b| *b != SUCC) {
+        None => bytes.len(),
+        Some(succs) if bytes[succs] == VARIABLE => succs + 2,
+        Some(succs) => succs + 1,
     }
-    start.max(bytes.len())
 }
 
 // Whether the patterns that the two strings of bytes begin with have a common instance.
@@ -49,67 +46,70 @@ fn bytes_from(bytes: &[u8], at: usize) -> &[u8]
     &bytes[at.min(bytes.len())..]
 }
 
-// Whether `count` patterns from the two places on have common instances, one by one.
-fn lefts_meet(bytes: &[u8], count: usize, first: usize, second: usize) -> bool
-    ensures { result ≡ args_meet bytes.now count first second }
+// Whether the `count` patterns that the two strings of bytes begin with have common instances, one by one.
+#[tactic(auto, using(crate::proofs::overlap::Laws::args_no, crate::proofs::overlap::Laws::args_yes, crate::proofs::overlap::Laws::args_none))]
+fn lefts_meet(first: &[u8], second: &[u8], count: usize) -> bool
+    ensures { result ≡ args_meet count first.now second.now }
 {
-    let mut i = first;
-    let mut j = second;
+    let mut left = first;
+    let mut right = second;
     for _ in 0..count {
-        if !patterns_meet(bytes_from(bytes, i), bytes_from(bytes, j)) {
+        if !patterns_meet(left, right) {
             return false;
         }
-        i = past_pattern(bytes, i);
-        j = past_pattern(bytes, j);
+        left = bytes_from(left, pattern_len(left));
+        right = bytes_from(right, pattern_len(right));
     }
     true
 }
 
-// The byte at a place, and 0 past the end.
-fn byte_at(bytes: &[u8], at: usize) -> u8
-    ensures { result ≡ get_or bytes.now at 0 }
-{
-    bytes.get(at).copied().unwrap_or(0)
+// The rules of a program: its bytes, and the arities of its functions.
+#[derive(Clone, Copy)]
+pub struct Rules<'a> {
+    pub program: &'a [u8],
+    pub arities: &'a [u8],
 }
 
-// Whether the rules opened at the two places are of one function and have left sides that meet.
-#[tactic(auto, unfolding(crate::specs::Overlap::clash_at))]
-fn clash(program: &[u8], arities: &[u8], first: usize, second: usize) -> bool
-    ensures { result ≡ clash_at program.now arities.now first second }
-{
-    let len = program.len();
-    if len <= first {
-        return false;
-    }
-    if len <= second {
-        return false;
-    }
-    let f = byte_at(program, first + 1);
-    let g = byte_at(program, second + 1);
-    if f != g {
-        return false;
-    }
-    let n = byte_at(arities, usize::from(g));
-    lefts_meet(program, usize::from(n), first + 2, second + 2)
-}
-
-// Whether the rule opened at `second` clashes with one of these.
-fn clashes_with(program: &[u8], arities: &[u8], before: &[usize], second: usize) -> bool
-    ensures { result ≡ any_clash program.now arities.now before.now second }
-{
-    before
-        .iter()
-        .any(|first| clash(program, arities, *first, second))
-}
-
-// Where the first rule opens that clashes with an earlier one, of the rules that open at these places.
-pub fn first_overlap(program: &[u8], arities: &[u8], openings: &[usize]) -> Option<usize>
-    ensures { result ≡ first_clash program.now arities.now [] openings.now }
-{
-    for (j, q) in openings.iter().enumerate() {
-        if clashes_with(program, arities, &openings[..j], *q) {
-            return Some(*q);
+impl<'a> Rules<'a> {
+    // Whether the rules opened at the two places are of one function and have left sides that meet.
+    #[tactic(auto, unfolding(crate::specs::Overlap::clash_at))]
+    fn clash(self, first: usize, second: usize) -> bool
+        ensures { result ≡ clash_at self.entry.program.now self.entry.arities.now first second }
+    {
+        let len = self.program.len();
+        if len <= first || len <= second {
+            return false;
         }
+        let f = get_or(self.program, first + 1, 0);
+        let g = get_or(self.program, second + 1, 0);
+        if f != g {
+            return false;
+        }
+        let n = get_or(self.arities, usize::from(g), 0);
+        lefts_meet(
+            bytes_from(self.program, first + 2),
+            bytes_from(self.program, second + 2),
+            usize::from(n),
+        )
     }
-    None
+
+    // Whether the rule opened at `second` clashes with one of these.
+    fn clashes_with(self, before: &[usize], second: usize) -> bool
+        ensures { result ≡ any_clash self.entry.program.now self.entry.arities.now before.now second }
+    {
+        before.iter().any(|first| self.clash(*first, second))
+    }
+
+    // Where the first rule opens that clashes with an earlier one, of the rules that open at these places.
+    #[tactic(auto, using(crate::proofs::overlap::Laws::first_yes, crate::proofs::overlap::Laws::first_no, crate::proofs::overlap::Laws::first_out))]
+    pub fn first_overlap(self, openings: &[usize]) -> Option<usize>
+        ensures { result ≡ first_clash self.entry.program.now self.entry.arities.now [] openings.now }
+    {
+        for (j, q) in openings.iter().enumerate() {
+            if self.clashes_with(&openings[..j], *q) {
+                return Some(*q);
+            }
+        }
+        None
+    }
 }

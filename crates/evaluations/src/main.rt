@@ -8,26 +8,12 @@ ghost use Rattle.std.specs.Prelude.{◌≤◌};
 use crate::programs::{ENDLESS, FIGURE2, FIGURE5, FIGURE6, FIGURE7, FIGURE8, SUMS};
 use checker::builtins::start_arities;
 use evaluator::evaluate;
-use evaluator::values::{Ending, Outcome, Value};
+use evaluator::values::Outcome;
 use rules::index::index_of;
+use rules::indexed::Indexed;
 use rules::lists::Lists;
 use rules::table::standing_list;
 use std::io;
-
-fn show(rt: &impl Print, r: Outcome) -> io::Result<()> {
-    let steps = r.steps;
-    match r.end {
-        Ending::Done(v) => {
-            let Value { succs, base } = v;
-            print!(rt; "value {succs} {base}")?
-        }
-        Ending::Raised(x) => print!(rt; "exception {x} -")?,
-        Ending::Stuck(s) => print!(rt; "stuck {s} -")?,
-        Ending::Out => print!(rt; "out - -")?,
-        Ending::Deep => print!(rt; "deep - -")?,
-    }
-    println!(rt; " {steps}")
-}
 
 // One question to a program with one function of one argument, or none.
 fn answer(
@@ -45,15 +31,19 @@ fn answer(
     let own_index = index_of(own);
     let mut arities = start_arities();
     arities[16] = 1;
-    print!(rt; "{name} | ")?;
     let lists = Lists {
         arities: &arities,
-        standing: &standing,
-        own,
-        standing_index: &standing_index,
-        own_index: &own_index,
+        standing: Indexed {
+            list: &standing,
+            index: &standing_index,
+        },
+        own: Indexed {
+            list: own,
+            index: &own_index,
+        },
     };
-    show(rt, evaluate(ws, lists, levels, steps))
+    let Outcome { end, steps: taken } = evaluate(ws, lists, levels, steps);
+    println!(rt; "{name} | {end} {taken}")
 }
 
 // The same within 500 levels and 100,000 steps.

@@ -17,7 +17,7 @@ use Rattle.words.proofs.Skips.{skip-then}
 use Rattle.words.proofs.Stands.{stands-skip}
 use Rattle.std.specs.Prelude.{Option, unwrap_or}
 use Rattle.evaluator.specs.Places.{place_past}
-use Rattle.evaluator.specs.Outcomes.{base_word}
+use Rattle.words.specs.Base.{word_of, named}
 
 -- the words of some trees stand in ws from the place a on
 pub record StandAll (ws : List ℕ) (a : ℕ) (ts : Trees) : Type 0 where
@@ -42,7 +42,7 @@ module _ (ws : List ℕ) where
   pub var-is : (a x : ℕ) → Stands ws a (var x) → get_or ws a 0 ≡ 64 + x
   var-is a x h = head_at a h.front
 
-  pub base-is : (a : ℕ) (b : Base) → Stands ws a (base_t b) → get_or ws a 0 ≡ base_word b
+  pub base-is : (a : ℕ) (b : Base) → Stands ws a (base_t b) → get_or ws a 0 ≡ word_of (named b)
   base-is a zero_b h = head_at a h.front
   base-is a true_b h = head_at a h.front
   base-is a false_b h = head_at a h.front

@@ -1,13 +1,13 @@
 -- A function's rules among words fit where the program's do, and bind what they bind.
 use mathlib.Core.Path.{◌≡◌, refl, sym, ap, ◌∙◌, subst}
 use mathlib.Core.Bool.{Bool, true, false}
-use mathlib.Core.List.{List, [], ◌∷◌, ◌++◌, append_assoc}
+use mathlib.Core.List.{List, [], ◌∷◌, ◌++◌, append_assoc, append-nil}
 use mathlib.Core.Option as maybe
 use Prim.Native.Nat.{ℕ, suc, ◌+◌, ◌-◌, ◌<◌, ◌≤◌}
-use native.Mathlib.Nat.{add-zero}
 use native.Mathlib.Omega.{arith}
 use lib.Dec.{eqb, eqb-suc-zero}
-use lib.ListN.{length, get_or, set, drop, length-set, length-drop, length-append, get_or-replicate}
+use lib.ListN.{length, get_or, set, take, drop, length-set, length-drop, length-append, get_or-replicate}
+use Rattle.std.proofs.lemmas.List.{take_more_set}
 use lib.Seq.{get_or-set_same, get_or-set_other}
 use borrow.Author.Tests.{le-ltb, ne_eqb, eqb-true, eqb-false}
 use Rattle.theory.specs.Syntax.{Base, zero_b, true_b, false_b, Val, base, up, height, base_of, Pat, pbase, psucc, pvar, Def, Bindings, bind_value, nothing_bound, same_base, and_then, fit, fits, Found as TheoryFound, found, chosen, pick}
@@ -19,15 +19,16 @@ use Rattle.theory.specs.Translation.{aux, tree, base_t, pat_t, pat_ts, own_rules
 use Rattle.theory.proofs.Readability.{length-words, length-wordss}
 use Rattle.words.specs.Stands.{Stands}
 use Rattle.std.specs.Prelude.{Option, Some, None}
-use Rattle.std.specs.Option.{option_or, IsSomeAnd}
-use Rattle.words.specs.Base.{named}
+use Rattle.std.specs.Option.{option_map, option_or, IsSomeAnd}
+use Rattle.words.specs.Base.{word_of, named}
 use Rattle.words.specs.declared.base.Base.{Base as Const}
 use Rattle.evaluator.specs.declared.values.Value.{Value}
 use Rattle.evaluator.specs.declared.fitting.Found.{Found}
+use Rattle.evaluator.specs.declared.fitting.Fitted.{Fitted}
 use Rattle.evaluator.specs.Values.{none, nones}
-use Rattle.evaluator.specs.Fitting.{fits as fitsTo, fit_node, fit_of, fit_then, fits_of, rule_of, found_from}
-use Rattle.evaluator.specs.Outcomes.{base_word, value_of}
-use Rattle.evaluator.proofs.Fits.{fit-step, found-past, found-step}
+use Rattle.evaluator.specs.Fitting.{fits_binding, fit_word, fit_node, fit_in, bind, fit_then, fits_of, found_at, rule_of, found_from}
+use Rattle.evaluator.specs.Outcomes.{value_of}
+use Rattle.evaluator.proofs.Fits.{fit-in-step, found-past, found-step}
 use Rattle.evaluator.proofs.TheoryRows.{fill}
 use Rattle.evaluator.proofs.Among.{StandAll, head_at, tail_at, behind, root_is, var-is, base-is, parts, first, others}
 
@@ -47,31 +48,33 @@ binds-set b θ x v h s =
     go y l true e = let f : x ≡ y = eqb-true x y e in rw (← f) (get_or-set_same b x (value_of v) none (omega (arith, h, s.eight)))
     go y l false e = get_or-set_other b x y (value_of v) none (λ f. eqb-false x y e (sym f)) ∙ s.same y l
 
--- the values that an array holds from number i on
-abbrev pub Holds : List Value → ℕ → List Val → Type 0
-Holds arr i [] = Unit {0}
-Holds arr i (v ∷ vs) = (get_or arr i none ≡ value_of v) × Holds arr (i + 1) vs
+-- the values as the code has them; so they stand in an array that they were put into
+abbrev pub values : List Val → List Value
+values [] = []
+values (v ∷ vs) = value_of v ∷ values vs
 
-fill-keeps : (vs : List Val) (arr : List Value) (i j : ℕ) → j < i → get_or (fill arr i vs) j none ≡ get_or arr j none
-fill-keeps [] arr i j h = refl
-fill-keeps (v ∷ vs) arr i j h = fill-keeps vs (set arr i (value_of v)) (i + 1) j (omega arith) ∙ get_or-set_other arr i j (value_of v) none (λ e. omega arith)
+filled-from : (vs : List Val) (arr : List Value) (i n : ℕ) → n ≡ i + length vs → n ≤ length arr → take n (fill arr i vs) ≡ take i arr ++ values vs
+filled-from [] arr i n e h = let m : n ≡ i = omega (arith, e) in rw m (sym (append-nil (take i arr)))
+filled-from (v ∷ vs) arr i n e h =
+    let l = length-set arr i (value_of v) in
+    filled-from vs (set arr i (value_of v)) (i + 1) n (omega (arith, e)) (omega (arith, l, h))
+    ∙ ap (λ (xs : List Value). xs ++ values vs) (take_more_set arr i (value_of v) (omega (arith, e, h)))
+    ∙ append_assoc (take i arr) (value_of v ∷ []) (values vs)
 
-pub fill_holds : (vs : List Val) (arr : List Value) (i : ℕ) → i + length vs ≤ length arr → Holds (fill arr i vs) i vs
-fill_holds [] arr i h = tt
-fill_holds (v ∷ vs) arr i h =
-    let e = length-set arr i (value_of v) in
-    (fill-keeps vs (set arr i (value_of v)) (i + 1) i (omega arith) ∙ get_or-set_same arr i (value_of v) none (omega arith), fill_holds vs (set arr i (value_of v)) (i + 1) (omega (arith, e, h)))
+pub filled : (vs : List Val) (arr : List Value) (n : ℕ) → length vs ≡ n → n ≤ length arr → take n (fill arr 0 vs) ≡ values vs
+filled vs arr n e h = filled-from vs arr 0 n (omega (arith, e)) h
 
--- a fit, with the place after it
-abbrev FitMeets : ℕ → Option Found → maybe.Option Bindings → Type 0
-FitMeets a f maybe.none = f ≡ None
-FitMeets a f (maybe.some θ) = IsSomeAnd f (λ x. (x.at ≡ a) × Binds x.b θ)
+-- a pattern's fit: the place after it, and the bindings with its own
+abbrev FitMeets : ℕ → List Value → Option Fitted → maybe.Option Bindings → Type 0
+FitMeets a b f maybe.none = f ≡ None
+FitMeets a b f (maybe.some θ) = IsSomeAnd f (λ x. (x.at ≡ a) × Binds (bind b x.binding) θ)
 
-fit-to : (a c : ℕ) (f : Option Found) (o : maybe.Option Bindings) → a ≡ c → FitMeets a f o → FitMeets c f o
-fit-to a c f o e h = subst (λ (n : ℕ). FitMeets n f o) e h
+fit-to : (a c : ℕ) (b : List Value) (f : Option Fitted) (o : maybe.Option Bindings) → a ≡ c → FitMeets a b f o → FitMeets c b f o
+fit-to a c b f o e h = subst (λ (n : ℕ). FitMeets n b f o) e h
 
 base-fit : (a : ℕ) (b : List Value) (θ : Bindings) → Binds b θ → (c d : Base)
-    → FitMeets (a + size (base_t c)) (fit_node 0 (named d) a b None (base_word c)) (pick (same_base c d) (maybe.some θ) maybe.none)
+    → FitMeets (a + size (base_t c)) b (fit_node 0 (named d) a None (word_of (named c))) (pick (same_base c d) (maybe.some θ) maybe.none)
+unfolding fit_word
 base-fit a b θ s zero_b zero_b = (refl, s)
 base-fit a b θ s zero_b true_b = refl
 base-fit a b θ s zero_b false_b = refl
@@ -82,15 +85,22 @@ base-fit a b θ s false_b zero_b = refl
 base-fit a b θ s false_b true_b = refl
 base-fit a b θ s false_b false_b = (refl, s)
 
-base-misfit : (k : ℕ) (x : Const) (a : ℕ) (b : List Value) (more : Option Found) (c : Base) → fit_node (suc k) x a b more (base_word c) ≡ None
-base-misfit k x a b more zero_b = rw (eqb-suc-zero k)
-base-misfit k x a b more true_b = rw (eqb-suc-zero k)
-base-misfit k x a b more false_b = rw (eqb-suc-zero k)
+base-misfit : (k : ℕ) (x : Const) (a : ℕ) (more : Option Fitted) (c : Base) → fit_node (suc k) x a more (word_of (named c)) ≡ None
+unfolding fit_word
+base-misfit k x a more zero_b = rw (eqb-suc-zero k)
+base-misfit k x a more true_b = rw (eqb-suc-zero k)
+base-misfit k x a more false_b = rw (eqb-suc-zero k)
 
-node-var : (k : ℕ) (x : Const) (a : ℕ) (b : List Value) (more : Option Found) (v : ℕ) → fit_node k x a b more (64 + v) ≡ fitsTo (a + 1) (set b v (record { succs = k; base = x }))
-node-var k x a b more v =
+node-var : (k : ℕ) (x : Const) (a : ℕ) (more : Option Fitted) (v : ℕ) → fit_node k x a more (64 + v) ≡ fits_binding (a + 1) v (record { succs = k; base = x })
+unfolding fit_word
+node-var k x a more v =
     let e : 64 + v - 64 ≡ v = omega arith in
-    rw (ne_eqb (64 + v) 0 (λ e. omega arith), ne_eqb (64 + v) 2 (λ e. omega arith), le-ltb (64 + v) 64 (omega arith), e)
+    rw (ne_eqb (64 + v) 2 (λ e. omega arith), le-ltb (64 + v) 64 (omega arith), e)
+
+-- the fits of some patterns, with the bindings
+abbrev AllMeet : Option (List Value) → maybe.Option Bindings → Type 0
+AllMeet o maybe.none = o ≡ None
+AllMeet o (maybe.some θ) = IsSomeAnd o (λ b. Binds b θ)
 
 -- the rule found in the words is the rule found in the program
 abbrev pub FoundMeets : List ℕ → (ℕ → ℕ) → Option Found → maybe.Option TheoryFound → Type 0
@@ -99,38 +109,34 @@ FoundMeets rs ar f (maybe.some g) = IsSomeAnd f (λ x. Stands rs x.at (tree g.bo
 
 module _ (rs : List ℕ) where
   fit-meets : (p : Pat) (v : Val) (a : ℕ) (b : List Value) (θ : Bindings) → Stands rs a (pat_t p) → NarrowPat p → Binds b θ
-      → FitMeets (a + size (pat_t p)) (fit_of rs (named (base_of v)) (height v) a b) (fit p v θ)
-  unfolding fit_of
+      → FitMeets (a + size (pat_t p)) b (fit_in rs (named (base_of v)) (height v) a) (fit p v θ)
+  unfolding fit_in
   fit-meets (pbase c) (base d) a b θ h n s = rw (base-is rs a c h) (base-fit a b θ s c d)
-  fit-meets (pbase c) (up v) a b θ h n s = rw (base-is rs a c h) (base-misfit (height v) (named (base_of v)) a b _ c)
+  fit-meets (pbase c) (up v) a b θ h n s = rw (base-is rs a c h) (base-misfit (height v) (named (base_of v)) a _ c)
   fit-meets (psucc p) (base d) a b θ h n s = rw (root_is rs a 2 _ h)
   fit-meets (psucc p) (up v) a b θ h n s =
       let e : a + 1 + size (pat_t p) ≡ a + size (pat_t (psucc p)) = omega arith in
-      rw (root_is rs a 2 _ h) (fit-to _ _ _ (fit p v θ) e (fit-meets p v (a + 1) b θ (first rs (a + 1) (pat_t p) [·] (parts rs a 2 _ h)) n s))
+      rw (root_is rs a 2 _ h) (fit-to _ _ b _ (fit p v θ) e (fit-meets p v (a + 1) b θ (first rs (a + 1) (pat_t p) [·] (parts rs a 2 _ h)) n s))
   fit-meets (pvar x) v a b θ h n s =
-      rw (fit-step rs (named (base_of v)) (height v) a b, var-is rs a x h, node-var (height v) (named (base_of v)) a b _ x)
+      rw (fit-in-step rs (named (base_of v)) (height v) a, var-is rs a x h, node-var (height v) (named (base_of v)) a _ x)
       (refl, binds-set b θ x v n s)
 
-  fits-meets : (ps : List Pat) (vs : List Val) (a i : ℕ) (arr b : List Value) (θ : Bindings) → StandAll rs a (pat_ts ps) → NarrowPats ps → Holds arr i vs → length ps ≡ length vs → Binds b θ
-      → FitMeets (a + sizes (pat_ts ps)) (fits_of rs (length ps) a i arr b) (fits ps vs θ)
+  fits-meets : (ps : List Pat) (vs : List Val) (a : ℕ) (b : List Value) (θ : Bindings) → StandAll rs a (pat_ts ps) → NarrowPats ps → length ps ≡ length vs → Binds b θ
+      → AllMeet (fits_of rs a (values vs) b) (fits ps vs θ)
   unfolding fits_of
-  fits-meets [] [] a i arr b θ h n g e s = (sym (add-zero a), s)
-  fits-meets [] (v ∷ vs) a i arr b θ h n g e s = absurd (omega (arith, e))
-  fits-meets (p ∷ ps) [] a i arr b θ h n g e s = absurd (omega (arith, e))
-  fits-meets (p ∷ ps) (v ∷ vs) a i arr b θ h n g e s =
-      rw g.0
-      (by (λ c η k. fits-meets ps vs (a + size (pat_t p)) (i + 1) arr c η (others rs a (pat_t p) (pat_ts ps) h) n.1 g.1 (omega (arith, e)) k)
-      (fit p v θ) (fit_of rs (named (base_of v)) (height v) a b) (fit-meets p v a b θ (first rs a (pat_t p) (pat_ts ps) h) n.0 s))
+  fits-meets [] [] a b θ h n e s = s
+  fits-meets [] (v ∷ vs) a b θ h n e s = absurd (omega (arith, e))
+  fits-meets (p ∷ ps) [] a b θ h n e s = absurd (omega (arith, e))
+  fits-meets (p ∷ ps) (v ∷ vs) a b θ h n e s =
+      by (λ c η k. fits-meets ps vs (a + size (pat_t p)) c η (others rs a (pat_t p) (pat_ts ps) h) n.1 (omega (arith, e)) k)
+      (fit p v θ) (fit_in rs (named (base_of v)) (height v) a) (fit-meets p v a b θ (first rs a (pat_t p) (pat_ts ps) h) n.0 s)
     where
-      by : ((c : List Value) (η : Bindings) → Binds c η → FitMeets (a + size (pat_t p) + sizes (pat_ts ps)) (fits_of rs (length ps) (a + size (pat_t p)) (i + 1) arr c) (fits ps vs η))
-          → (o : maybe.Option Bindings) (f : Option Found) → FitMeets (a + size (pat_t p)) f o
-          → FitMeets (a + (size (pat_t p) + sizes (pat_ts ps))) (fit_then f (λ c d. fits_of rs (length ps) c (i + 1) arr d)) (and_then o (fits ps vs))
+      by : ((c : List Value) (η : Bindings) → Binds c η → AllMeet (fits_of rs (a + size (pat_t p)) (values vs) c) (fits ps vs η))
+          → (o : maybe.Option Bindings) (f : Option Fitted) → FitMeets (a + size (pat_t p)) b f o
+          → AllMeet (fit_then f (λ x. fits_of rs x.at (values vs) (bind b x.binding))) (and_then o (fits ps vs))
       by more maybe.none f m = rw m
       by more (maybe.some η) None m = absurd m
-      by more (maybe.some η) (Some x) m =
-          let e' : a + size (pat_t p) + sizes (pat_ts ps) ≡ a + (size (pat_t p) + sizes (pat_ts ps)) = omega arith in
-          rw m.0
-          (fit-to _ _ _ (fits ps vs η) e' (more x.b η m.1))
+      by more (maybe.some η) (Some x) m = rw m.0 (more (bind b x.binding) η m.1)
 
 -- the rules of a function: each has as many patterns as the function has arguments, and a right side in which each symbol has its parts
 abbrev pub GoodDefs : (ℕ → ℕ) → ℕ → List Def → Type 0
@@ -173,24 +179,22 @@ module _ (rs : List ℕ) (ar : ℕ → ℕ) (k n : ℕ) where
         next = behind rs r _ _ i5 e4;
       }
 
-  pub found-meets : (arr : List Value) (vs : List Val) → Holds arr 0 vs → length vs ≡ n → (ds : List Def) (a : ℕ) → GoodDefs ar n ds → drop a rs ≡ stored_rules (own_rules k n ds)
-      → FoundMeets rs ar (found_from rs n arr a) (chosen ds vs)
+  pub found-meets : (vs : List Val) → length vs ≡ n → (ds : List Def) (a : ℕ) → GoodDefs ar n ds → drop a rs ≡ stored_rules (own_rules k n ds)
+      → FoundMeets rs ar (found_from rs (values vs) a) (chosen ds vs)
   unfolding rule_of
-  found-meets arr vs g e [] a h w =
+  found-meets vs e [] a h w =
       let m : length (drop a rs) ≡ 0 = ap length w in
       let past : length rs ≤ a = omega (arith, m, length-drop a rs) in
-      rw (← (found-past rs n arr a past))
-  found-meets arr vs g e (d ∷ ds) a h w =
+      rw (← (found-past rs (values vs) a past))
+  found-meets vs e (d ∷ ds) a h w =
       let r = rule-at a d (stored_rules (own_rules k n ds)) w in
-      let f : length d.left ≡ n = h.0 in
-      let z : ℕ = a + 2 + (1 + sizes (pat_ts d.left)) + size (tree d.right) in
-      rw (found-step rs n arr a r.inside, r.left-count, r.right-count, ← f)
-      (by r.right (fits d.left vs nothing_bound) _ (fits-meets rs d.left vs (a + 3) 0 arr nones nothing_bound r.patterns h.1 g (f ∙ sym e) binds-none)
-      _ (chosen ds vs) (subst (λ (m : ℕ). FoundMeets rs ar (found_from rs m arr z) (chosen ds vs)) (sym f) (found-meets arr vs g e ds z h.3 r.next)))
+      rw (found-step rs (values vs) a r.inside, r.left-count, r.right-count)
+      (by r.right (fits d.left vs nothing_bound) _ (fits-meets rs d.left vs (a + 3) nones nothing_bound r.patterns h.1 (h.0 ∙ sym e) binds-none)
+      _ (chosen ds vs) (found-meets vs e ds _ h.3 r.next))
     where
-      by : Stands rs (a + 2 + (1 + sizes (pat_ts d.left))) (tree d.right) → (o : maybe.Option Bindings) (f : Option Found) → FitMeets (a + 3 + sizes (pat_ts d.left)) f o
+      by : Stands rs (a + 2 + (1 + sizes (pat_ts d.left))) (tree d.right) → (o : maybe.Option Bindings) (f : Option (List Value)) → AllMeet f o
           → (later : Option Found) (l : maybe.Option TheoryFound) → FoundMeets rs ar later l
-          → FoundMeets rs ar (option_or (fit_then f (λ c b. fitsTo (a + 2 + (1 + sizes (pat_ts d.left))) b)) later) (theory.or_else (found d.right o) l)
+          → FoundMeets rs ar (option_or (option_map (found_at (a + 2 + (1 + sizes (pat_ts d.left)))) f) later) (theory.or_else (found d.right o) l)
       by right maybe.none f m later l q = rw m q
       by right (maybe.some θ) None m later l q = absurd m
-      by right (maybe.some θ) (Some x) m later l q = (right, h.2, m.1)
+      by right (maybe.some θ) (Some x) m later l q = (right, h.2, m)

@@ -10,18 +10,23 @@ use Rattle.rules.specs.declared.index.Span.{Span}
 use Rattle.evaluator.specs.declared.values.Value.{Value}
 use Rattle.evaluator.specs.declared.values.Ending.TheVariants.{Done, Raised, Stuck, Deep}
 use Rattle.evaluator.specs.declared.values.Answer.{Answer}
-use Rattle.evaluator.specs.declared.rows.Onward.{Onward}
-use Rattle.evaluator.specs.declared.rows.Taken.{Taken}
-use Rattle.evaluator.specs.declared.evaluation.Listed.{Listed}
-use Rattle.evaluator.specs.declared.evaluation.Entered.{Entered}
+use Rattle.evaluator.specs.declared.rows.Then.{Then}
+use Rattle.evaluator.specs.declared.fitting.Found.{Found}
 use Rattle.evaluator.specs.declared.places.Op.{Op}
+use Rattle.evaluator.specs.declared.places.Kind.{Kind}
 use Rattle.evaluator.specs.declared.places.Kind.TheVariants.{Data, Var, Raise, Part, Call, Other}
 use Rattle.evaluator.specs.Values.{answer, none, nones}
 use Rattle.evaluator.specs.Places.{kind_of, arguments_of, place_past}
-use Rattle.evaluator.specs.Rows.{left_of, pay_of, turn_of, took_of}
+use Rattle.evaluator.specs.Rows.{answer_then, result_then, left_of, pay_of, turn_of, took_of}
 use Rattle.evaluator.specs.Fitting.{rules_of}
-use Rattle.evaluator.specs.Evaluation.{Evaluator, answer_then, result_then, list_of, entered_of, body_of, call_of, node, ev}
-use Rattle.evaluator.proofs.Laws.{ev-kind}
+use Rattle.evaluator.specs.Evaluation.{Evaluator, list_of, entered_of, body_of, call_of, node, ev}
+
+-- a term by its kind, where a level is left
+ev-kind : (standing own ks : List ℕ) (si oi : List Span) (l : ℕ) (ws : List ℕ) (b : List Value) (a p : ℕ) (k : Kind) → (l ≡ 0 → ⊥) → kind_of (get_or ws a 0) ≡ k
+    → ev standing own ks si oi l ws b a p ≡ node standing own ks si oi (ev standing own ks si oi (l - 1)) ws b a p k
+unfolding ev
+ev-kind standing own ks si oi zero ws b a p k f e = absurd (f refl)
+ev-kind standing own ks si oi (suc l) ws b a p k f e = rw (e, sub-one (suc l))
 
 module _ (standing own ks : List ℕ) (si oi : List Span) (l : ℕ) (ws : List ℕ) (b : List Value) (a p : ℕ) where
   pub at-deep : l ≡ 0 → answer Deep p ≡ ev standing own ks si oi l ws b a p
@@ -53,10 +58,10 @@ module _ (standing own ks : List ℕ) (si oi : List Span) (l : ℕ) (ws : List �
     at_other e = sym (ev-kind standing own ks si oi l ws b a p Other f e)
 
     module _ {o : Op} {r : Answer} (k : kind_of (get_or ws a 0) ≡ Part o) (hr : r ≡ ev standing own ks si oi (l - 1) ws b (a + 1) p) where
-      abbrev turned : Result Onward Answer
+      abbrev turned : Result (Then ℕ) Answer
       turned = turn_of o (get_or ws (place_past ks ws (a + 1) 1) 0 - 32) r
 
-      turned-to : answer_then turned (λ t. ev standing own ks si oi (l - 1) ws b (place_past ks ws (a + 1) t.parts) t.left) ≡ ev standing own ks si oi l ws b a p
+      turned-to : answer_then turned (λ t. ev standing own ks si oi (l - 1) ws b (place_past ks ws (a + 1) t.next) t.left) ≡ ev standing own ks si oi l ws b a p
       unfolding node
       turned-to = rw hr (sym (ev-kind standing own ks si oi l ws b a p (Part o) f k))
 
@@ -64,7 +69,7 @@ module _ (standing own ks : List ℕ) (si oi : List Span) (l : ℕ) (ws : List �
       unfolding answer_then
       at-part-ends h = rw (← h) at turned-to
 
-      pub at-part-goes : {t : Onward} {m : ℕ} {x : Answer} → Ok t ≡ turned → m ≡ place_past ks ws (a + 1) t.parts → x ≡ ev standing own ks si oi (l - 1) ws b m t.left → x ≡ ev standing own ks si oi l ws b a p
+      pub at-part-goes : {t : Then ℕ} {m : ℕ} {x : Answer} → Ok t ≡ turned → m ≡ place_past ks ws (a + 1) t.next → x ≡ ev standing own ks si oi (l - 1) ws b m t.left → x ≡ ev standing own ks si oi l ws b a p
       unfolding answer_then
       at-part-goes h hm hx = (rw hm at hx) ∙ (rw (← h) at turned-to)
 
@@ -74,17 +79,16 @@ module _ (standing own ks : List ℕ) (si oi : List Span) (l : ℕ) (ws : List �
         let rs = rules_of standing own si oi k n in
         body_of rs (ev standing own ks si oi (l - 1)) (entered_of rs n (list_of ks (ev standing own ks si oi (l - 1)) ws b n (a + 1) 0 nones q))
 
-    -- its root is the word w
-    module _ {k w : ℕ} (hw : w ≡ get_or ws a 0) (e : kind_of (get_or ws a 0) ≡ Call k) where
-      started : answer_then (left_of 1 p) (called k (arguments_of ks w)) ≡ ev standing own ks si oi l ws b a p
+    module _ {k : ℕ} (e : kind_of (get_or ws a 0) ≡ Call k) where
+      started : answer_then (left_of 1 p) (called k (arguments_of ks (get_or ws a 0))) ≡ ev standing own ks si oi l ws b a p
       unfolding node call_of
-      started = rw hw (sym (ev-kind standing own ks si oi l ws b a p (Call k) f e))
+      started = sym (ev-kind standing own ks si oi l ws b a p (Call k) f e)
 
       pub at-call-out : {x : Answer} → Err x ≡ left_of 1 p → x ≡ ev standing own ks si oi l ws b a p
       unfolding answer_then
       at-call-out h = rw (← h) at started
 
-      module _ {q n : ℕ} {x : Result Listed Answer} {rules : List ℕ} (h : Ok q ≡ left_of 1 p) (hn : n ≡ arguments_of ks w) (hx : x ≡ list_of ks (ev standing own ks si oi (l - 1)) ws b n (a + 1) 0 nones q)
+      module _ {q n : ℕ} {x : Result (Then (List Value)) Answer} {rules : List ℕ} (h : Ok q ≡ left_of 1 p) (hn : n ≡ arguments_of ks (get_or ws a 0)) (hx : x ≡ list_of ks (ev standing own ks si oi (l - 1)) ws b n (a + 1) 0 nones q)
           (hl : rules ≡ rules_of standing own si oi k n) where
         entered : body_of rules (ev standing own ks si oi (l - 1)) (entered_of rules n x) ≡ ev standing own ks si oi l ws b a p
         unfolding answer_then
@@ -94,31 +98,34 @@ module _ (standing own ks : List ℕ) (si oi : List Span) (l : ℕ) (ws : List �
         unfolding body_of answer_then
         at-call-ends g = rw (← g) at entered
 
-        pub at-call-goes : {e : Entered} {z : Answer} → Ok e ≡ entered_of rules n x → z ≡ ev standing own ks si oi (l - 1) rules e.b e.at e.left → z ≡ ev standing own ks si oi l ws b a p
+        pub at-call-goes : {e : Then Found} {z : Answer} → Ok e ≡ entered_of rules n x → z ≡ ev standing own ks si oi (l - 1) rules e.next.b e.next.at e.left → z ≡ ev standing own ks si oi l ws b a p
         unfolding body_of answer_then
         at-call-goes g hz = hz ∙ (rw (← g) at entered)
 
 -- one argument, and the rest of the list
 list-more : (ks : List ℕ) (E : Evaluator) (ws : List ℕ) (b : List Value) (n a i : ℕ) (vs : List Value) (p : ℕ) → (n ≡ 0 → ⊥)
-    → list_of ks E ws b n a i vs p ≡ result_then (took_of (E ws b a p)) (λ t. list_of ks E ws b (n - 1) (place_past ks ws a 1) (i + 1) (set vs i t.value) t.left)
+    → list_of ks E ws b n a i vs p ≡ result_then (took_of (E ws b a p)) (λ t. list_of ks E ws b (n - 1) (place_past ks ws a 1) (i + 1) (set vs i t.next) t.left)
 unfolding list_of
 list-more ks E ws b zero a i vs p f = absurd (f refl)
 list-more ks E ws b (suc n) a i vs p f = rw (sub-one (suc n))
 
 module _ (ks : List ℕ) (E : Evaluator) (ws : List ℕ) (b : List Value) (n a i : ℕ) (vs : List Value) (p : ℕ) where
-  pub list-none : n ≡ 0 → Ok (record { vals = vs; left = p }) ≡ list_of ks E ws b n a i vs p
+  pub list-none : n ≡ 0 → Ok (record { next = vs; left = p }) ≡ list_of ks E ws b n a i vs p
   unfolding list_of
   list-none e = rw e
 
   module _ {r : Answer} (f : n ≡ 0 → ⊥) (hr : r ≡ E ws b a p) where
-    took-to : result_then (took_of r) (λ x. list_of ks E ws b (n - 1) (place_past ks ws a 1) (i + 1) (set vs i x.value) x.left) ≡ list_of ks E ws b n a i vs p
+    took-to : result_then (took_of r) (λ x. list_of ks E ws b (n - 1) (place_past ks ws a 1) (i + 1) (set vs i x.next) x.left) ≡ list_of ks E ws b n a i vs p
     took-to = rw hr (sym (list-more ks E ws b n a i vs p f))
 
     pub list-ends : {x : Answer} → Err x ≡ took_of r → Err x ≡ list_of ks E ws b n a i vs p
     unfolding result_then
     list-ends h = rw (← h) at took-to
 
-    pub list-takes : {v : Taken} {m : ℕ} {x : Result Listed Answer} → Ok v ≡ took_of r → m ≡ place_past ks ws a 1 → x ≡ list_of ks E ws b (n - 1) m (i + 1) (set vs i v.value) v.left
+    pub list-takes : {v : Then Value} {m : ℕ} {x : Result (Then (List Value)) Answer} → Ok v ≡ took_of r → m ≡ place_past ks ws a 1 → x ≡ list_of ks E ws b (n - 1) m (i + 1) (set vs i v.next) v.left
         → x ≡ list_of ks E ws b n a i vs p
     unfolding result_then
     list-takes h hm hx = (rw hm at hx) ∙ (rw (← h) at took-to)
+
+-- the ways in which a term and a list of arguments come to their answer, for the check to look for
+pub ruleset level_steps = (at-deep, at-past, at-data, at-var, at-raise, at_other, at-part-ends, at-part-goes, at-call-out, at-call-ends, at-call-goes, list-none, list-ends, list-takes)

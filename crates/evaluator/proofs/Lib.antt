@@ -1,5 +1,5 @@
--- Over any words: Laws, Fits, Bounds, Levels. To the theory's terms: TheoryRows, Among, Chosen, Terms, OnBytes.
-mod Laws
+-- Over any words: Fits, Bounds, Levels. To the theory's terms: TheoryRows, Among, Chosen, Terms, OnBytes.
+mod Paying
 mod Fits
 mod Bounds
 mod Levels

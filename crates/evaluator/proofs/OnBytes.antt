@@ -18,16 +18,16 @@ use Rattle.theory.proofs.Shape.{parts-aux, tree-shaped}
 use Rattle.theory.proofs.Accepted.{read-on-bytes, length-funs}
 use Rattle.words.specs.Terms.{arity_of}
 use Rattle.rules.specs.declared.index.Span.{Span}
-use Rattle.rules.specs.Index.{index_of}
+use Rattle.rules.specs.Index.{index_of, rules_with}
 use Rattle.rules.proofs.Ranges.{standing-range, own_range, nth_past}
 use Rattle.rules.proofs.Program.{arity-is}
 use Rattle.rules.proofs.Standing.{standing-same}
 use Rattle.evaluator.specs.Values.{nones}
-use Rattle.evaluator.specs.Fitting.{part_of, rules_of, found_from}
+use Rattle.evaluator.specs.Fitting.{rules_of, found_from}
 use Rattle.evaluator.specs.Evaluation.{evaluated}
 use Rattle.evaluator.specs.Outcomes.{outcome_of}
-use Rattle.evaluator.proofs.TheoryRows.{same_outcome, fill}
-use Rattle.evaluator.proofs.Chosen.{binds-none, fill_holds, FoundMeets, GoodDefs, found-meets}
+use Rattle.evaluator.proofs.TheoryRows.{same_outcome}
+use Rattle.evaluator.proofs.Chosen.{binds-none, values, FoundMeets, GoodDefs, found-meets}
 use Rattle.evaluator.proofs.Terms.{Finds, ev-term}
 
 -- a number that is no declared function's has no rules
@@ -51,7 +51,7 @@ module _ (n : ℕ) (fs : List Fun) (exceptions : n ≤ 16) (functions : length f
   unfolding rules_of
   rules-are k = go (ltb k 48) refl (ltb k 16) refl
     where
-      go : (a : Bool) → ltb k 48 ≡ a → (b : Bool) → ltb k 16 ≡ b → pick a (pick b (part_of st (index_of st) (aux k (suc (fun_of fs k).arity))) (part_of own (index_of own) (aux k (suc (fun_of fs k).arity)))) [] ≡ mine k
+      go : (a : Bool) → ltb k 48 ≡ a → (b : Bool) → ltb k 16 ≡ b → pick a (pick b (rules_with st (index_of st) (aux k (suc (fun_of fs k).arity))) (rules_with own (index_of own) (aux k (suc (fun_of fs k).arity)))) [] ≡ mine k
       go true e true f = standing-range fs formed.small k (ltb-true k 16 f)
       go true e false f = own_range fs formed.small n k (ltb-false k 16 f) (ltb-true k 48 e)
       go false e b f =
@@ -78,10 +78,9 @@ module _ (n : ℕ) (fs : List Fun) (exceptions : n ≤ 16) (functions : length f
       }
     where
       meets : (k : ℕ) (vs : List Val) → length vs ≡ (fun_of fs k).arity
-          → FoundMeets (rules_of st own (index_of st) (index_of own) k (fun_of fs k).arity) (arity_of ks) (found_from (rules_of st own (index_of st) (index_of own) k (fun_of fs k).arity) (fun_of fs k).arity (fill nones 0 vs) 0) (chosen (fun_of fs k).defs vs)
+          → FoundMeets (rules_of st own (index_of st) (index_of own) k (fun_of fs k).arity) (arity_of ks) (found_from (rules_of st own (index_of st) (index_of own) k (fun_of fs k).arity) (values vs) 0) (chosen (fun_of fs k).defs vs)
       meets k vs e =
-          let s = formed.small k in
-          found-meets (rules_of st own (index_of st) (index_of own) k (fun_of fs k).arity) (arity_of ks) k (fun_of fs k).arity (fill nones 0 vs) vs (fill_holds vs nones 0 (omega (arith, e, s))) e
+          found-meets (rules_of st own (index_of st) (index_of own) k (fun_of fs k).arity) (arity_of ks) k (fun_of fs k).arity vs e
           (fun_of fs k).defs 0 (good-defs (fun_of fs k).arity (fun_of fs k).defs (formed.bodies k) (narrow k)) (rules-are k)
 
   answered : (t : Term) → WellFormed P t → Narrow t → (levels steps : ℕ) → evaluated (words (tree t)) st own ks (index_of st) (index_of own) levels steps ≡ outcome_of (evaluator P levels steps t)

@@ -6,7 +6,7 @@ use mathlib.Core.Option as maybe
 use Prim.Native.Nat.{ℕ, zero, suc, ◌+◌, ◌-◌, ◌<◌, ◌≤◌}
 use native.Mathlib.Omega.{arith}
 use lib.Dec.{eqb}
-use lib.ListN.{length, get_or, set}
+use lib.ListN.{length, get_or, set, take}
 use borrow.Author.Tests.{lt-ltb, le-ltb, le-leb, ne_eqb}
 use Rattle.theory.proofs.Shape.{len-trees}
 use Rattle.theory.specs.Syntax.{Base, zero_b, true_b, false_b, Val, Term, const, succ, tvar, raise, handle, cond, call, Terms, tnil, tcons, many, Program, Bindings, Found as TheoryFound, chosen}
@@ -18,29 +18,28 @@ use Rattle.theory.specs.Translation.{aux, exn_t, tree, trees}
 use Rattle.words.specs.Terms.{arity_of}
 use Rattle.words.specs.Stands.{Stands}
 use Rattle.std.specs.Prelude.{Option, Some, None}
-use Rattle.std.specs.Prelude.{Result, Ok, Err}
-use Rattle.words.specs.Base.{named}
+use Rattle.std.specs.Prelude.{Result}
+use Rattle.words.specs.Base.{word_of, named}
 use Rattle.rules.specs.declared.index.Span.{Span}
 use Rattle.evaluator.specs.declared.values.Value.{Value}
 use Rattle.evaluator.specs.declared.values.Answer.{Answer}
-use Rattle.evaluator.specs.declared.evaluation.Listed.{Listed}
-use Rattle.evaluator.specs.declared.evaluation.Entered.{Entered}
+use Rattle.evaluator.specs.declared.rows.Then.{Then}
 use Rattle.evaluator.specs.declared.fitting.Found.{Found}
 use Rattle.evaluator.specs.declared.places.Kind.{Kind}
 use Rattle.evaluator.specs.declared.places.Kind.TheVariants.{Data, Var, Raise, Part, Call}
 use Rattle.evaluator.specs.declared.places.Op.TheVariants.{Succ, Handle, If}
 use Rattle.evaluator.specs.Values.{nones}
 use Rattle.evaluator.specs.Places.{kind_of, arguments_of}
-use Rattle.evaluator.specs.Rows.{left_of}
+use Rattle.evaluator.specs.Rows.{answer_then, result_then}
 use Rattle.evaluator.specs.Fitting.{rules_of, found_from}
-use Rattle.evaluator.specs.Evaluation.{Evaluator, answer_then, result_then, list_of, found_then, entered_of, body_of, call_of, node, ev}
-use Rattle.evaluator.specs.Outcomes.{base_word, value_of}
-use Rattle.evaluator.proofs.TheoryRows.{code, pay-row, left-row, succ-row, handle-row, cond-row, fill, ListMeets, arg-row}
+use Rattle.evaluator.specs.Evaluation.{Evaluator, list_of, found_then, entered_of, body_of, call_of, node, ev}
+use Rattle.evaluator.specs.Outcomes.{value_of}
+use Rattle.evaluator.proofs.TheoryRows.{code, pay-row, left-row, go-row, succ-row, handle-row, cond-row, fill, ListMeets, arg-row}
 use Rattle.evaluator.proofs.Among.{StandAll, root_is, var-is, base-is, parts, first, others, past_one, past_two}
-use Rattle.evaluator.proofs.Chosen.{Binds, FoundMeets}
+use Rattle.evaluator.proofs.Chosen.{Binds, values, filled, FoundMeets}
 
 -- what a word is, at words that are not literals
-kind-const : (b : Base) → kind_of (base_word b) ≡ Data (named b)
+kind-const : (b : Base) → kind_of (word_of (named b)) ≡ Data (named b)
 unfolding kind_of
 kind-const zero_b = refl
 kind-const true_b = refl
@@ -56,9 +55,9 @@ kind-var v h =
     let no : (n : ℕ) → n ≤ 12 → eqb (64 + v) n ≡ false = no-op (64 + v) (omega arith) in
     rw (
       no 1 (omega arith),
-      no 2 (omega arith),
       no 3 (omega arith),
       no 4 (omega arith),
+      no 2 (omega arith),
       no 10 (omega arith),
       no 11 (omega arith),
       no 12 (omega arith),
@@ -74,9 +73,9 @@ kind-call k =
     let no : (n : ℕ) → n ≤ 12 → eqb w n ≡ false = no-op w (omega arith) in
     rw (
       no 1 (omega arith),
-      no 2 (omega arith),
       no 3 (omega arith),
       no 4 (omega arith),
+      no 2 (omega arith),
       no 10 (omega arith),
       no 11 (omega arith),
       no 12 (omega arith),
@@ -107,7 +106,7 @@ module _ (P : Program) (standing own ks : List ℕ) (si oi : List Span) where
     pub arity : (k : ℕ) → arity_of ks (aux k 0) ≡ (P.fun k).arity
     pub few : (k : ℕ) → (P.fun k).arity ≤ 4
     pub meets : (k : ℕ) (vs : List Val) → length vs ≡ (P.fun k).arity
-        → FoundMeets (list k) (arity_of ks) (found_from (list k) (P.fun k).arity (fill nones 0 vs) 0) (chosen (P.fun k).defs vs)
+        → FoundMeets (list k) (arity_of ks) (found_from (list k) (values vs) 0) (chosen (P.fun k).defs vs)
 
   module _ (finds : Finds) where
     arguments-are : (k : ℕ) → arguments_of ks (aux k 0) ≡ (P.fun k).arity
@@ -117,21 +116,17 @@ module _ (P : Program) (standing own ks : List ℕ) (si oi : List Span) where
     module _ (E : Evaluator) (evI : PayingEv)
         (same : (ws : List ℕ) (t : Term) (a : ℕ) (b : List Value) (θ : Bindings) (p : ℕ) → Shaped (arity_of ks) (tree t) → Stands ws a (tree t) → Binds b θ → E ws b a p ≡ code (evI θ t p)) (k : ℕ) where
       found-row : (f : Option Found) (o : maybe.Option TheoryFound) (p : ℕ) → FoundMeets (list k) (arity_of ks) f o → body_of (list k) E (found_then f p) ≡ code (body_pays evI o p)
-      unfolding body_of answer_then result_then
+      unfolding body_of answer_then
       found-row f maybe.none p h = rw h
       found-row None (maybe.some g) p h = absurd h
-      found-row (Some f) (maybe.some g) p h =
-          spent (left_of 1 p)
-          ∙ left-row 1 p (λ q. E (list k) f.b f.at q) (evI g.bound g.body) (λ q. same (list k) g.body f.at f.b g.bound q h.1 h.0 h.2)
-        where
-          spent : (r : Result ℕ Answer) → answer_then {A = Entered} (result_then r (λ q. Ok (record { at = f.at; b = f.b; left = q }))) (λ x. E (list k) x.b x.at x.left) ≡ answer_then r (λ q. E (list k) f.b f.at q)
-          spent (Ok q) = refl
-          spent (Err r) = refl
+      found-row (Some f) (maybe.some g) p h = go-row 1 p f _ (evI g.bound g.body) (λ q. same (list k) g.body f.at f.b g.bound q h.1 h.0 h.2)
 
-      call-row : (x : Result Listed Answer) (y : Remaining Args) → ListMeets 0 nones (P.fun k).arity y x
+      call-row : (x : Result (Then (List Value)) Answer) (y : Remaining Args) → ListMeets 0 nones (P.fun k).arity y x
           → body_of (list k) E (entered_of (list k) (P.fun k).arity x) ≡ code (then_with y (call_pays evI (P.fun k).defs))
       unfolding body_of entered_of result_then answer_then
-      call-row x (ends_leaving (vals vs) p) h = rw h.0 (found-row _ (chosen (P.fun k).defs vs) p (finds.meets k vs h.1))
+      call-row x (ends_leaving (vals vs) p) h =
+          let e : take (P.fun k).arity (fill nones 0 vs) ≡ values vs = filled vs nones (P.fun k).arity h.1 (omega (arith, finds.few k)) in
+          rw (h.0, e) (found-row _ (chosen (P.fun k).defs vs) p (finds.meets k vs h.1))
       call-row x (ends_leaving (ended m) p) h = rw h
       call-row x ran_out h = rw h
 
@@ -150,7 +145,7 @@ module _ (P : Program) (standing own ks : List ℕ) (si oi : List Span) where
         → ev standing own ks si oi l ws b a p ≡ code (pay_eval P l θ t p)
     unfolding ev pay_eval node call_of kind_of
     ev-term zero ws t a b θ p g h s = refl
-    ev-term (suc l) ws (const c) a b θ p g h s = by_kind l ws b a p (base_word c) (Data (named c)) (base-is ws a c h) (kind-const c)
+    ev-term (suc l) ws (const c) a b θ p g h s = by_kind l ws b a p (word_of (named c)) (Data (named c)) (base-is ws a c h) (kind-const c)
     ev-term (suc l) ws (succ t) a b θ p g h s =
         by_kind l ws b a p 2 (Part Succ) (root_is ws a 2 _ h) refl
         ∙ rw (ev-term l ws t (a + 1) b θ p g.2.0 (first ws (a + 1) (tree t) [·] (parts ws a 2 _ h)) s) (succ-row (T l θ t p) _ _)

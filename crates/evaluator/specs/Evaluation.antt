@@ -1,5 +1,5 @@
 -- Evaluation over words: what is evaluated, for any words, bindings, levels and steps.
-use Rattle.std.specs.Prelude.{ℕ, zero, suc, ◌+◌, ◌-◌, ◌≤◌, List, get_or, set, Option, Some, None, Result, Ok, Err}
+use Rattle.std.specs.Prelude.{ℕ, zero, suc, ◌+◌, ◌-◌, ◌≤◌, List, get_or, set, take, Option, Some, None, Result, Ok, Err}
 use Rattle.std.specs.Result.{MatchResult}
 use Rattle.rules.specs.declared.index.Span.{Span}
 use Rattle.rules.specs.declared.lists.Lists.{Lists}
@@ -7,15 +7,13 @@ use Rattle.evaluator.specs.declared.values.Value.{Value}
 use Rattle.evaluator.specs.declared.values.Ending.TheVariants.{Done, Raised, Stuck, Deep}
 use Rattle.evaluator.specs.declared.values.Answer.{Answer}
 use Rattle.evaluator.specs.declared.values.Outcome.{Outcome}
-use Rattle.evaluator.specs.declared.rows.Onward.{Onward}
+use Rattle.evaluator.specs.declared.rows.Then.{Then}
 use Rattle.evaluator.specs.declared.fitting.Found.{Found}
 use Rattle.evaluator.specs.declared.places.Kind.{Kind}
 use Rattle.evaluator.specs.declared.places.Kind.TheVariants.{Data, Var, Raise, Part, Call, Other}
-use Rattle.evaluator.specs.declared.evaluation.Listed.{Listed}
-use Rattle.evaluator.specs.declared.evaluation.Entered.{Entered}
 use Rattle.evaluator.specs.Values.{none, nones, answer, most, size, Small}
 use Rattle.evaluator.specs.Places.{kind_of, arguments_of, place_past}
-use Rattle.evaluator.specs.Rows.{left_of, pay_of, turn_of, took_of}
+use Rattle.evaluator.specs.Rows.{answer_then, result_then, left_of, pay_of, go_of, turn_of, took_of}
 use Rattle.evaluator.specs.Fitting.{rules_of, found_from}
 
 -- what l levels and p steps allow an answer
@@ -23,43 +21,34 @@ pub record Fine (l p : ℕ) (r : Answer) : Type 0 where
   pub few : size r.end ≤ most + l
   pub steps : r.left ≤ p
 
-abbrev pub FineTurn : ℕ → ℕ → Result Onward Answer → Type 0
-FineTurn l p t = MatchResult t (λ o. o.left ≤ p) (Fine l p)
+-- the same of what may go on: P of what follows
+abbrev pub FineThen : {A : Type 0} → (A → Type 0) → ℕ → ℕ → Result (Then A) Answer → Type 0
+FineThen P l p t = MatchResult t (λ x. (x.left ≤ p) × P x.next) (Fine l p)
 
-abbrev pub FineList : ℕ → ℕ → Result Listed Answer → Type 0
-FineList l p x = MatchResult x (λ y. (y.left ≤ p) × Small y.vals) (Fine l p)
+abbrev pub FineList : ℕ → ℕ → Result (Then (List Value)) Answer → Type 0
+FineList = FineThen Small
 
 -- an evaluator of whatever stands at a place: words, bindings, place, steps left
 abbrev pub Evaluator : Type 0
 Evaluator = List ℕ → List Value → ℕ → ℕ → Answer
 
--- what follows where it goes on, or the end that it is
-unfoldable pub answer_then : {A : Type 0} → Result A Answer → (A → Answer) → Answer
-answer_then (Ok x) k = k x
-answer_then (Err r) k = r
-
--- the same, where what follows may go on too
-unfoldable pub result_then : {A B : Type 0} → Result A Answer → (A → Result B Answer) → Result B Answer
-result_then (Ok x) k = k x
-result_then (Err r) k = Err r
-
 -- n arguments from a on, of which the first is number i, after the values vs
-unfoldable pub list_of : List ℕ → Evaluator → List ℕ → List Value → ℕ → ℕ → ℕ → List Value → ℕ → Result Listed Answer
-list_of ks E ws b zero a i vs p = Ok (record { vals = vs; left = p })
+unfoldable pub list_of : List ℕ → Evaluator → List ℕ → List Value → ℕ → ℕ → ℕ → List Value → ℕ → Result (Then (List Value)) Answer
+list_of ks E ws b zero a i vs p = Ok (record { next = vs; left = p })
 list_of ks E ws b (suc n) a i vs p =
-    result_then (took_of (E ws b a p)) (λ t. list_of ks E ws b n (place_past ks ws a 1) (i + 1) (set vs i t.value) t.left)
+    result_then (took_of (E ws b a p)) (λ t. list_of ks E ws b n (place_past ks ws a 1) (i + 1) (set vs i t.next) t.left)
 
-abbrev pub found_then : Option Found → ℕ → Result Entered Answer
+abbrev pub found_then : Option Found → ℕ → Result (Then Found) Answer
 found_then None p = Err (answer (Stuck 0) p)
-found_then (Some f) p = result_then (left_of 1 p) (λ q. Ok (record { at = f.at; b = f.b; left = q }))
+found_then (Some f) p = go_of 1 p f
 
 -- from the arguments to the right side of the first of the rules that fits: its place, its bindings and the steps left
-unfoldable pub entered_of : List ℕ → ℕ → Result Listed Answer → Result Entered Answer
-entered_of rs n l = result_then l (λ x. found_then (found_from rs n x.vals 0) x.left)
+unfoldable pub entered_of : List ℕ → ℕ → Result (Then (List Value)) Answer → Result (Then Found) Answer
+entered_of rs n l = result_then l (λ x. found_then (found_from rs (take n x.next) 0) x.left)
 
 -- the right side, among the rules
-unfoldable pub body_of : List ℕ → Evaluator → Result Entered Answer → Answer
-body_of rs E e = answer_then e (λ x. E rs x.b x.at x.left)
+unfoldable pub body_of : List ℕ → Evaluator → Result (Then Found) Answer → Answer
+body_of rs E e = answer_then e (λ x. E rs x.next.b x.next.at x.left)
 
 module _ (standing own ks : List ℕ) (standingIndex ownIndex : List Span) where
   -- a call of function k with n arguments, where E evaluates what is one level below
@@ -74,7 +63,7 @@ module _ (standing own ks : List ℕ) (standingIndex ownIndex : List Span) where
   node E ws b a p (Var v) = answer (Done (get_or b v none)) p
   node E ws b a p Raise = pay_of 1 p (Raised (get_or ws (a + 1) 0 - 32))
   node E ws b a p (Part o) =
-      answer_then (turn_of o (get_or ws (place_past ks ws (a + 1) 1) 0 - 32) (E ws b (a + 1) p)) (λ t. E ws b (place_past ks ws (a + 1) t.parts) t.left)
+      answer_then (turn_of o (get_or ws (place_past ks ws (a + 1) 1) 0 - 32) (E ws b (a + 1) p)) (λ t. E ws b (place_past ks ws (a + 1) t.next) t.left)
   node E ws b a p (Call k) = call_of E ws b a p k (arguments_of ks (get_or ws a 0))
   node E ws b a p Other = answer (Stuck 0) p
 
@@ -93,7 +82,7 @@ evaluated ws standing own ks standingIndex ownIndex levels steps = paid_of steps
 
 -- the same by the lists as the code passes them: what `eval` and `evaluate` answer
 abbrev pub ev_by : Lists → ℕ → Evaluator
-ev_by l = ev l.standing.now l.own.now l.arities.now l.standing_index.now l.own_index.now
+ev_by l = ev l.standing.list.now l.own.list.now l.arities.now l.standing.index.now l.own.index.now
 
 abbrev pub evaluated_by : Lists → List ℕ → ℕ → ℕ → Outcome
-evaluated_by l ws = evaluated ws l.standing.now l.own.now l.arities.now l.standing_index.now l.own_index.now
+evaluated_by l ws = evaluated ws l.standing.list.now l.own.list.now l.arities.now l.standing.index.now l.own.index.now

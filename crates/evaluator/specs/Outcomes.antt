@@ -1,17 +1,13 @@
 -- The theory's answers as the code gives them: for each ending, its case, and k and base of a value, the exception, or s.
-use Rattle.std.specs.Prelude.{ℕ}
-use Rattle.theory.specs.Syntax.{Base, Val, height, base_of}
+use Rattle.theory.specs.Syntax.{Val, height, base_of}
 use Rattle.theory.specs.Endings.{Ending as TheoryEnding, value, raised, stuck, too_deep, Said, is, out_of_steps, too_big, Answer as TheoryAnswer}
-use Rattle.words.specs.Base.{word_of, named}
+use Rattle.words.specs.Base.{named}
 use Rattle.evaluator.specs.declared.values.Value.{Value}
 use Rattle.evaluator.specs.declared.values.Ending.{Ending}
 use Rattle.evaluator.specs.declared.values.Ending.TheVariants.{Done, Raised, Stuck, Out, Deep}
 use Rattle.evaluator.specs.declared.values.Outcome.{Outcome}
 
--- a constant's word, and a value
-abbrev pub base_word : Base → ℕ
-base_word b = word_of (named b)
-
+-- a value
 abbrev pub value_of : Val → Value
 value_of v = record { succs = height v; base = named (base_of v) }
 

@@ -2,8 +2,9 @@
 ghost use Rattle.std.specs.Prelude.{◌≡◌, ◌-◌, ◌≤◌, get_or};
 ghost use Rattle.evaluator.specs.Places.{kind_of, arguments_of, place_past};
 
-use rules::index::word_at;
 use words::base::Base;
+use words::slices::get_or;
+use words::symbols::{EXCEPTION, FUNCTION, HANDLE, IF, LAST_VARIABLE, RAISE, SUCC, VARIABLE};
 use words::terms::{arity, skip_many};
 
 // What has a first part that is evaluated before all else.
@@ -25,21 +26,26 @@ pub enum Kind {
     Other,
 }
 
-#[tactic(auto, unfolding(crate::specs::Places::kind_of))]
-pub fn kind_of(w: u16) -> Kind
-    ensures { result ≡ kind_of w }
-{
-    if let Some(base) = Base::of(w) {
-        return Kind::Data(base);
-    }
-    match w {
-        2 => Kind::Part(Op::Succ),
-        10 => Kind::Part(Op::If),
-        11 => Kind::Raise,
-        12 => Kind::Part(Op::Handle),
-        64..=71 => Kind::Var(usize::from(w - 64)),
-        256.. => Kind::Call(usize::from((w - 256) / 8)),
-        _ => Kind::Other,
+// What a word is the root of.
+impl From<u16> for Kind {
+    ghost from_gives = { λ w kind. kind ≡ kind_of w };
+
+    #[tactic(auto, unfolding(crate::specs::Places::kind_of))]
+    fn from(w: u16) -> Kind
+        ensures { result ≡ kind_of w }
+    {
+        if let Some(base) = Base::of(w) {
+            return Kind::Data(base);
+        }
+        match w {
+            SUCC => Kind::Part(Op::Succ),
+            IF => Kind::Part(Op::If),
+            RAISE => Kind::Raise,
+            HANDLE => Kind::Part(Op::Handle),
+            VARIABLE..=LAST_VARIABLE => Kind::Var(usize::from(w - VARIABLE)),
+            FUNCTION.. => Kind::Call(usize::from((w - FUNCTION) / 8)),
+            _ => Kind::Other,
+        }
     }
 }
 
@@ -47,7 +53,7 @@ pub fn kind_of(w: u16) -> Kind
 pub fn exception_at(ws: &[u16], at: usize) -> u16
     ensures { result ≡ get_or ws.now at 0 - 32 }
 {
-    word_at(ws, at).saturating_sub(32)
+    get_or(ws, at, 0).saturating_sub(EXCEPTION)
 }
 
 // The number of arguments of a call whose root is w. A number over four is no arity, and counts as none.

@@ -1,4 +1,5 @@
-// The rows of document 01's table of steps: what follows each ending of a part. An Err is how the evaluation ends here.
+// The rows of document 01's table of steps: what follows each ending of a part. An Err is how the evaluation ends here. A charge of k + 3
+// is paid in two parts, so that no bound on k is asked for.
 ghost use Rattle.std.specs.Prelude.{◌≡◌, ◌≤◌};
 ghost use Rattle.evaluator.specs.Values.{size};
 ghost use Rattle.evaluator.specs.Rows.{left_of, pay_of, go_of, after_succ, after_guard, chosen_part, after_test, took_of};
@@ -6,17 +7,10 @@ ghost use Rattle.evaluator.specs.Rows.{left_of, pay_of, go_of, after_succ, after
 use crate::values::{Answer, Ending, Value};
 use words::base::Base;
 
-// After a part: it goes on, so many parts further, with the steps left.
+// What follows, and the steps left.
 #[derive(Clone, Copy)]
-pub struct Onward {
-    pub parts: u16,
-    pub left: u32,
-}
-
-// After an argument: its value, and the steps left.
-#[derive(Clone, Copy)]
-pub struct Taken {
-    pub value: Value,
+pub struct Then<T> {
+    pub next: T,
     pub left: u32,
 }
 
@@ -29,7 +23,7 @@ pub fn spend(c: u32, p: u32) -> Result<u32, Answer>
 }
 
 // Ends with e once c steps are paid.
-#[tactic(auto, unfolding(crate::specs::Rows::pay_of, crate::specs::Rows::left_of))]
+#[tactic(auto, unfolding(crate::specs::Rows::pay_of, crate::specs::Rows::left_of, crate::specs::Rows::answer_then))]
 pub fn pay(c: u32, p: u32, e: Ending) -> Answer
     ensures { result ≡ pay_of c p e }
 {
@@ -39,13 +33,13 @@ pub fn pay(c: u32, p: u32, e: Ending) -> Answer
     }
 }
 
-// Goes on, n parts further, once c steps are paid.
-#[tactic(auto, unfolding(crate::specs::Rows::go_of, crate::specs::Rows::left_of))]
-pub fn go(c: u32, p: u32, n: u16) -> Result<Onward, Answer>
-    ensures { result ≡ go_of c p n }
+// Goes on with what follows once c steps are paid.
+#[tactic(auto, unfolding(crate::specs::Rows::go_of, crate::specs::Rows::left_of, crate::specs::Rows::result_then))]
+pub fn go<T: Copy>(c: u32, p: u32, next: T) -> Result<Then<T>, Answer>
+    ensures { result ≡ go_of c p next }
 {
     let left = spend(c, p)?;
-    Ok(Onward { parts: n, left })
+    Ok(Then { next, left })
 }
 
 // After the part of a succ.
@@ -65,23 +59,22 @@ pub fn after_succ(end: Ending, p: u32) -> Answer
     }
 }
 
-// After the guarded part of a handle with the exception e.
-#[tactic(auto, unfolding(crate::specs::Rows::after_guard))]
-pub fn after_guard(e: u16, end: Ending, p: u32) -> Result<Onward, Answer>
-    requires { size end ≤ 1002000 }
+// After the guarded part of a handle with the exception e: how many parts further it goes on.
+#[tactic(auto, using(crate::proofs::Paying::pay_steps), unfolding(crate::specs::Rows::after_guard))]
+pub fn after_guard(e: u16, end: Ending, p: u32) -> Result<Then<u16>, Answer>
     ensures { result ≡ after_guard e end p }
 {
     match end {
-        Ending::Done(v) => Err(pay(v.succs + 3, p, end)),
+        Ending::Done(v) => Err(pay(v.succs, spend(3, p)?, end)),
         Ending::Raised(x) if x == e => go(3, p, 2),
         Ending::Raised(_) => Err(pay(3, p, end)),
-        Ending::Stuck(s) => Err(pay(1 + s, p, Ending::Stuck(0))),
+        Ending::Stuck(s) => Err(pay(1, spend(s, p)?, Ending::Stuck(0))),
         Ending::Out | Ending::Deep => Err(end.leaving(p)),
     }
 }
 
 // The part of an if that its test's constant chooses; zero chooses none.
-fn chosen_part(base: Base, p: u32) -> Result<Onward, Answer>
+fn chosen_part(base: Base, p: u32) -> Result<Then<u16>, Answer>
     ensures { result ≡ chosen_part base p }
 {
     match base {
@@ -93,7 +86,7 @@ fn chosen_part(base: Base, p: u32) -> Result<Onward, Answer>
 
 // After the first part of an if.
 #[tactic(auto, unfolding(crate::specs::Rows::after_test))]
-pub fn after_test(end: Ending, p: u32) -> Result<Onward, Answer>
+pub fn after_test(end: Ending, p: u32) -> Result<Then<u16>, Answer>
     ensures { result ≡ after_test end p }
 {
     match end {
@@ -105,19 +98,15 @@ pub fn after_test(end: Ending, p: u32) -> Result<Onward, Answer>
 }
 
 // After an argument of a call.
-#[tactic(auto, unfolding(crate::specs::Rows::took_of, crate::specs::Rows::after_arg, crate::specs::Rows::left_of))]
-pub fn take_value(r: Answer) -> Result<Taken, Answer>
-    requires { size r.end ≤ 1002000 }
+#[tactic(auto, using(crate::proofs::Paying::pay_steps), unfolding(crate::specs::Rows::took_of, crate::specs::Rows::after_arg))]
+pub fn take_value(r: Answer) -> Result<Then<Value>, Answer>
     ensures { result ≡ took_of r }
 {
     let Answer { end, left: p } = r;
     match end {
-        Ending::Done(value) => {
-            let left = spend(value.succs + 3, p)?;
-            Ok(Taken { value, left })
-        }
+        Ending::Done(value) => go(value.succs, spend(3, p)?, value),
         Ending::Raised(_) => Err(pay(3, p, end)),
-        Ending::Stuck(succs) => Err(pay(1 + succs, p, Ending::Stuck(0))),
+        Ending::Stuck(succs) => Err(pay(1, spend(succs, p)?, Ending::Stuck(0))),
         Ending::Out | Ending::Deep => Err(r),
     }
 }

@@ -1,7 +1,8 @@
-// Values, how an evaluation ends, and the eight values that a call's variables stand for.
-ghost use Rattle.std.specs.Prelude.{◌≡◌, get_or};
-ghost use Rattle.evaluator.specs.Values.{answer, none};
+// Values, and how an evaluation ends.
+ghost use Rattle.std.specs.Prelude.{◌≡◌};
+ghost use Rattle.evaluator.specs.Values.{answer};
 
+use std::fmt;
 use words::base::Base;
 
 // succ so many times over a constant.
@@ -19,6 +20,14 @@ impl Value {
     };
 }
 
+// Its succ signs, and its constant.
+impl fmt::Display for Value {
+    fn fmt<W: fmt::Write>(&self, f: &mut fmt::Formatter<W>) -> fmt::Result {
+        let Value { succs, base } = *self;
+        write!(f, "{succs} {base}")
+    }
+}
+
 // A value; an exception; stuck with so many succ signs outside; out of steps; too deep.
 #[derive(Clone, Copy)]
 pub enum Ending {
@@ -27,6 +36,19 @@ pub enum Ending {
     Stuck(u32),
     Out,
     Deep,
+}
+
+// In the words of document 01: what it is, how much of it, and a value's constant.
+impl fmt::Display for Ending {
+    fn fmt<W: fmt::Write>(&self, f: &mut fmt::Formatter<W>) -> fmt::Result {
+        match *self {
+            Ending::Done(v) => write!(f, "value {v}"),
+            Ending::Raised(x) => write!(f, "exception {x} -"),
+            Ending::Stuck(s) => write!(f, "stuck {s} -"),
+            Ending::Out => write!(f, "out - -"),
+            Ending::Deep => write!(f, "deep - -"),
+        }
+    }
 }
 
 // How an evaluation ended, and the steps left of those allowed.
@@ -50,11 +72,4 @@ impl Ending {
 pub struct Outcome {
     pub end: Ending,
     pub steps: u32,
-}
-
-// The value of variable x; 0 for a number that is no variable's.
-pub fn bound(b: [Value; 8], x: usize) -> Value
-    ensures { result ≡ get_or b x none }
-{
-    b.get(x).copied().unwrap_or(Value::ZERO)
 }

@@ -1,3 +1,5 @@
 -- Laws of the writers.
 pub mod Writes
 pub mod RuleWords
+pub mod ExceptionRules
+pub mod CallRules

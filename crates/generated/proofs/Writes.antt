@@ -75,7 +75,11 @@ turn-room f n i h room w =
 pub turn_more : (f : ℕ → List Rule) (i : ℕ) {u v w : Writer} → Wrote (below f i) u v → Wrote (stored_rules (f i)) v w → Wrote (below f (i + 1)) u w
 turn_more f i a b = wrote_as (sym (below_more f i)) (wrote_then a b)
 
--- four lists of rules, one after the other
-pub list-four : (a b c d : List Rule) → stored_rules (a ++ (b ++ (c ++ d))) ≡ stored_rules a ++ (stored_rules b ++ (stored_rules c ++ stored_rules d))
-list-four a b c d =
-    list-append a (b ++ (c ++ d)) ∙ ap (stored_rules a ++◌) (list-append b (c ++ d) ∙ ap (stored_rules b ++◌) (list-append c d))
+-- how many words two lists of rules are; so there is room for the second behind the first, as a slice keeps its length
+pub length_both : (a b : List Rule) → length (stored_rules (a ++ b)) ≡ length (stored_rules a) + length (stored_rules b)
+length_both a b = ap length (list-append a b) ∙ length-append (stored_rules a) (stored_rules b)
+
+pub ruleset rooms = (length_both, length-put)
+
+-- where nothing is written
+pub ruleset nothing_written = (put-none)

@@ -29,6 +29,7 @@ use Rattle.step.specs.Next.{left, right, next_w}
 use Rattle.step.proofs.Ruled.{next-ruled}
 use Rattle.in_place.specs.InPlace.{Leads, Changes, vars, Calls, Renames, Tests, Passes}
 use Rattle.in_place.specs.declared.Change.{Change}
+use Rattle.in_place.specs.declared.shapes.Test.{Test}
 use Rattle.in_place.proofs.Variables.{taken, renamed, tested}
 use Rattle.in_place.proofs.Values.{value_passes}
 
@@ -113,9 +114,6 @@ module _ (ks standing own : List ℕ) (si oi : List Span) (t path : List ℕ) (r
   plain : is_var (get_or t p 0) ≡ false
   plain = high-plain (get_or t p 0) c.high
 
-  long : 2 ≤ length rule
-  long = omega (arith, c.long)
-
   whole : 2 + get_or rule 0 0 + get_or rule 1 0 ≤ length rule
   whole = omega (arith, fitted.whole)
 
@@ -126,7 +124,7 @@ module _ (ks standing own : List ℕ) (si oi : List Span) (t path : List ℕ) (r
         set t p b,
         (
           next-ruled ks standing own si oi t z site
-              ∙ renamed ks t p n (get_or t p 0) within refl plain c.few fit rule long whole is-left b (high-plain b r.high) (renaming-right rule (get_or t p 0) n c fitted.whole r),
+              ∙ renamed ks t p n (get_or t p 0) within refl plain c.few fit rule whole is-left b (high-plain b r.high) (renaming-right rule (get_or t p 0) n c fitted.whole r),
           (omega (arith, fits-room, length-set t p b), refl),
         ),
       )
@@ -159,7 +157,7 @@ module _ (ks standing own : List ℕ) (si oi : List Span) (t path : List ℕ) (r
     first =
         let v = value-skips ks t q e (get_or t e 0) refl value.value.inside refl value.value.base in
         next-ruled ks standing own si oi t z site
-        ∙ tested ks t p n (get_or t p 0) within refl plain c.few fit rule long whole is-left (get_or rule (n + 5) 0 - 64) b q (e + 1) r.bound (high-plain b r.high)
+        ∙ tested ks t p n (get_or t p 0) within refl plain c.few fit rule whole is-left (get_or rule (n + 5) 0 - 64) b q (e + 1) r.bound (high-plain b r.high)
         (testing-right rule (get_or t p 0) n c fitted.whole ks r) there v.0
         ∙ ap (λ (l : List ℕ). some (take p t ++ 7 ∷ 9 ∷ (l ++ ws))) v.1
         ∙ ap (λ (l : List ℕ). some (take p t ++ 7 ∷ 9 ∷ l)) (append_snoc (replicate (e - q) 2) (get_or t e 0) ws)
@@ -212,14 +210,18 @@ module _ (ks standing own : List ℕ) (si oi : List Span) (t path : List ℕ) (r
   changes : (k : Change) → 0 < k.steps → Leads next room k.steps t (set t z.place k.word) → Changes next room s t (Some k)
   changes k h l = subst (λ (x : Maybe Site). Changes next room x t (Some k)) (sym there) (h, l)
 
-  pub renaming-changes : Renames r n → Changes next room s t (Some (record { steps = 1; word = get_or r (n + 3) 0 }))
-  renaming-changes e =
-      changes (record { steps = 1; word = get_or r (n + 3) 0 }) (omega arith)
-      (said (λ (l : List ℕ). Renames l n → Leads next room 1 t (set t z.place (get_or l (n + 3) 0))) (rename-leads ks standing own si oi t path room m n z site noted fits-room) e)
+  pub renaming-changes : (b : ℕ) → Renames r n × (b ≡ get_or r (n + 3) 0) → Changes next room s t (Some (record { steps = 1; word = b }))
+  renaming-changes b e =
+      subst (λ (w : ℕ). Changes next room s t (Some (record { steps = 1; word = w }))) (sym e.1)
+      (changes (record { steps = 1; word = get_or r (n + 3) 0 }) (omega arith)
+      (said (λ (l : List ℕ). Renames l n → Leads next room 1 t (set t z.place (get_or l (n + 3) 0))) (rename-leads ks standing own si oi t path room m n z site noted fits-room) e.0))
 
-  pub test-changes : Usual standing si oi → Tests ks r n → (o : Maybe ℕ) → o ≡ past (arity_of ks) (drop (z.place + 1) t) (get_or r (n + 5) 0 - 64) (z.place + 1) → (q steps : ℕ) → o ≡ Some q
-      → Passes t q room steps → Changes next room s t (Some (record { steps = steps; word = get_or r (n + 6) 0 }))
-  test-changes usual e o reached q steps ends value =
-      changes (record { steps = steps; word = get_or r (n + 6) 0 }) (omega (arith, value.count))
+  pub test-changes : Usual standing si oi → (x : Test) → Tests ks r n × ((x.before ≡ get_or r (n + 5) 0 - 64) × (x.word ≡ get_or r (n + 6) 0)) → (o : Maybe ℕ)
+      → o ≡ past (arity_of ks) (drop (z.place + 1) t) x.before (z.place + 1) → (q steps : ℕ) → o ≡ Some q → Passes t q room steps
+      → Changes next room s t (Some (record { steps = steps; word = x.word }))
+  test-changes usual x e o reached q steps ends value =
+      subst (λ (w : ℕ). Changes next room s t (Some (record { steps = steps; word = w }))) (sym e.1.1)
+      (changes (record { steps = steps; word = get_or r (n + 6) 0 }) (omega (arith, value.count))
       (said (λ (l : List ℕ). Tests ks l n → past (arity_of ks) (drop (z.place + 1) t) (get_or l (n + 5) 0 - 64) (z.place + 1) ≡ Some q → Leads next room steps t (set t z.place (get_or l (n + 6) 0)))
-      (λ k e there. test-leads ks standing own si oi t path room m n z site noted fits-room k usual e q steps there value) e (sym reached ∙ ends))
+      (λ k e there. test-leads ks standing own si oi t path room m n z site noted fits-room k usual e q steps there value) e.0
+      (ap (λ (i : ℕ). past (arity_of ks) (drop (z.place + 1) t) i (z.place + 1)) (sym e.1.0) ∙ sym reached ∙ ends)))

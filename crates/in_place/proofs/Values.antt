@@ -12,11 +12,11 @@ use Rattle.std.specs.Prelude.{Option as Maybe, Some, None}
 use Rattle.theory.specs.Tree.{active}
 use Rattle.theory.specs.Words.{is_var}
 use Rattle.theory.specs.Buffers.{part}
+use Rattle.words.proofs.Skips.{succs-from}
 use Rattle.words.specs.Terms.{arity_of, past, skip_at}
 use Rattle.words.proofs.Skips.{past-reach, past-later}
 use Rattle.words.proofs.Parts.{tail-part}
-use Rattle.rules.specs.Matching.{takes, reached, fits, binds}
-use Rattle.rules.specs.Index.{no_span}
+use Rattle.rules.specs.Matching.{takes, reached, fits, binds, no_words}
 use Rattle.rules.specs.declared.index.Span.{Span}
 use Rattle.rules.specs.Usual.{Base, opening, Spans, Usual}
 use Rattle.rules.specs.Finding.{stored, first_fit, moved, first_at, fitting_of}
@@ -32,7 +32,7 @@ use Rattle.place.proofs.Path.{below_none, here-is}
 use Rattle.place.proofs.Noted.{site-top}
 use Rattle.place.specs.declared.Site.{Site}
 use Rattle.splice.specs.Right.{new, word_for}
-use Rattle.step.specs.Next.{past_by, end_by, ruled, next_w}
+use Rattle.step.specs.Next.{left, right, past_by, end_by, ruled, next_w}
 use Rattle.in_place.specs.InPlace.{Leads}
 use Rattle.step.proofs.Ruled.{past-plain, ruled-is, next-ruled}
 
@@ -54,11 +54,11 @@ past_value ks (suc k) c ws p h = let z : p + 1 + (k + 1) ≡ p + (suc k + 1) = o
 
 -- ---- a left side of two words, or of two words and a variable, and a subject that begins with the two
 abbrev zeros : List Span
-zeros = replicate 8 no_span
+zeros = replicate 8 no_words
 
 -- the first variable takes the words from 2 up to n
 abbrev slots : ℕ → List Span
-slots n = record { from = 2; to = n } ∷ no_span ∷ no_span ∷ no_span ∷ no_span ∷ no_span ∷ no_span ∷ no_span ∷ []
+slots n = record { from = 2; to = n } ∷ no_words ∷ no_words ∷ no_words ∷ no_words ∷ no_words ∷ no_words ∷ no_words ∷ []
 
 module _ (ks : List ℕ) (a b : ℕ) (va : is_var a ≡ false) (vb : is_var b ≡ false) (ws : List ℕ) where
   abbrev S : List ℕ
@@ -112,14 +112,12 @@ module _ (ks front ss rule : List ℕ) where
   subject : part p (length t) t ≡ ss
   subject = tail-part t p ∙ drop-append_seam front ss
 
-  ruled-behind : (l r : ℕ) → 2 ≤ length rule → l ≡ get_or rule 0 0 → r ≡ get_or rule 1 0 → 2 + l + r ≤ length rule
-      → (b : List Span) → b ≡ binds ks ss (take (2 + l - 2) (drop 2 rule)) 0 zeros → (n : ℕ) → n ≡ end_by b (take (2 + l - 2) (drop 2 rule)) 0 → n ≤ length ss
-      → ruled ks rule t p ≡ some (front ++ (new ss b (take (2 + l + r - (2 + l)) (drop (2 + l) rule)) ++ drop n ss))
-  ruled-behind l r h el er k b q n qn g =
-      let right : List ℕ = take (2 + l + r - (2 + l)) (drop (2 + l) rule) in
-      ruled-is ks rule t p h l r el er k b (q ∙ ap (λ (s : List ℕ). binds ks s (take (2 + l - 2) (drop 2 rule)) 0 zeros) (sym subject)) n qn (omega (arith, g, length-append front ss))
-      ∙ ap₂ (λ (f s : List ℕ). some (f ++ (new s b right ++ drop (p + n) t))) (take-append_seam front ss) subject
-      ∙ ap (λ (d : List ℕ). some (front ++ (new ss b right ++ d))) (drop-append-add front ss n)
+  ruled-behind : 2 + get_or rule 0 0 + get_or rule 1 0 ≤ length rule → (b : List Span) → b ≡ binds ks ss (left rule) 0 zeros → (n : ℕ) → n ≡ end_by b (left rule) 0 → n ≤ length ss
+      → ruled ks rule t p ≡ some (front ++ (new ss b (right rule) ++ drop n ss))
+  ruled-behind k b q n qn g =
+      ruled-is ks rule t p k b (q ∙ ap (λ (s : List ℕ). binds ks s (left rule) 0 zeros) (sym subject)) n qn (omega (arith, g, length-append front ss))
+      ∙ ap₂ (λ (f s : List ℕ). some (f ++ (new s b (right rule) ++ drop (p + n) t))) (take-append_seam front ss) subject
+      ∙ ap (λ (d : List ℕ). some (front ++ (new ss b (right rule) ++ d))) (drop-append-add front ss n)
 
 module _ (ks front ws : List ℕ) where
   -- what a variable behind two words takes, and what stands behind that
@@ -134,7 +132,7 @@ module _ (ks front ws : List ℕ) where
     ruled-succ : ruled ks (3 ∷ 2 ∷ 9 ∷ 2 ∷ 64 ∷ 9 ∷ 64 ∷ []) (front ++ 9 ∷ 2 ∷ ws) (length front) ≡ some (front ++ 9 ∷ ws)
     unfolding end_by past_by word_for
     ruled-succ =
-        ruled-behind ks front (9 ∷ 2 ∷ ws) (3 ∷ 2 ∷ 9 ∷ 2 ∷ 64 ∷ 9 ∷ 64 ∷ []) 3 2 (omega arith) refl refl (omega arith) (slots (2 + e)) (sym (binds-three ks 9 2 refl refl ws e h)) (2 + e) refl
+        ruled-behind ks front (9 ∷ 2 ∷ ws) (3 ∷ 2 ∷ 9 ∷ 2 ∷ 64 ∷ 9 ∷ 64 ∷ []) (omega arith) (slots (2 + e)) (sym (binds-three ks 9 2 refl refl ws e h)) (2 + e) refl
         (omega (arith, past-reach (arity_of ks) ws 1 0 e h))
         ∙ ap (λ (l : List ℕ). some (front ++ 9 ∷ l)) (third 9 2 e)
 
@@ -142,7 +140,7 @@ module _ (ks front ws : List ℕ) where
     ruled-guard : ruled ks (3 ∷ 1 ∷ 7 ∷ 5 ∷ 64 ∷ 64 ∷ []) (front ++ 7 ∷ 5 ∷ ws) (length front) ≡ some (front ++ ws)
     unfolding end_by past_by word_for
     ruled-guard =
-        ruled-behind ks front (7 ∷ 5 ∷ ws) (3 ∷ 1 ∷ 7 ∷ 5 ∷ 64 ∷ 64 ∷ []) 3 1 (omega arith) refl refl (omega arith) (slots (2 + e)) (sym (binds-three ks 7 5 refl refl ws e h)) (2 + e) refl
+        ruled-behind ks front (7 ∷ 5 ∷ ws) (3 ∷ 1 ∷ 7 ∷ 5 ∷ 64 ∷ 64 ∷ []) (omega arith) (slots (2 + e)) (sym (binds-three ks 7 5 refl refl ws e h)) (2 + e) refl
         (omega (arith, past-reach (arity_of ks) ws 1 0 e h))
         ∙ ap (λ (l : List ℕ). some (front ++ l)) (third 7 5 e)
 
@@ -150,13 +148,13 @@ module _ (ks front ws : List ℕ) where
   ruled-base : (c : ℕ) → is_var c ≡ false → ruled ks (2 ∷ 1 ∷ 9 ∷ c ∷ 5 ∷ []) (front ++ 9 ∷ c ∷ ws) (length front) ≡ some (front ++ 5 ∷ ws)
   unfolding end_by word_for
   ruled-base c v =
-      ruled-behind ks front (9 ∷ c ∷ ws) (2 ∷ 1 ∷ 9 ∷ c ∷ 5 ∷ []) 2 1 (omega arith) refl refl (omega arith) zeros (sym (binds-two ks 9 c refl v ws)) 2
+      ruled-behind ks front (9 ∷ c ∷ ws) (2 ∷ 1 ∷ 9 ∷ c ∷ 5 ∷ []) (omega arith) zeros (sym (binds-two ks 9 c refl v ws)) 2
       (ap (λ (n : ℕ). n + 1) (past-plain zeros 9 0 refl) ∙ past-plain zeros c (past_by zeros 9 0) v) (omega arith)
 
 -- ---- what fits, where the lists are usual
 -- the rule of n words from word number at of the standing list on
 abbrev standing_rule : ℕ → ℕ → Fitting
-standing_rule at n = Standing (record { at = at; len = n })
+standing_rule at n = Standing (record { from = at; to = at + n })
 
 module _ (ks standing own : List ℕ) (si oi : List Span) (usual : Usual standing si oi) where
   abbrev find : List ℕ → Maybe Fitting
@@ -169,8 +167,10 @@ module _ (ks standing own : List ℕ) (si oi : List Span) (usual : Usual standin
   finds : (a b : ℕ) (rules ss : List ℕ) (at n : ℕ) → Spans si (length standing) (get_or ss 0 0) a b
       → take (b - a) (drop a standing) ≡ rules → first_fit ks rules ss ≡ stored at n → find ss ≡ Some (standing_rule (a + at) n)
   finds a b rules ss at n h e f =
+      let end : a + (at + n) ≡ a + at + n = omega arith in
       let place : first_at ks standing si ss ≡ stored (a + at) n =
-      searched ks standing si ss a b h ∙ ap (λ (l : List ℕ). moved a (first_fit ks l ss)) e ∙ ap (moved a) f in
+      searched ks standing si ss a b h ∙ ap (λ (l : List ℕ). moved a (first_fit ks l ss)) e ∙ ap (moved a) f
+      ∙ ap (λ (m : ℕ). Some (record { from = a + at; to = m })) end in
       sym (found-in-standing ks standing own si oi ss refl place)
 
   abbrev guards : List ℕ
@@ -296,7 +296,8 @@ module _ (ks standing own : List ℕ) (si oi : List Span) (usual : Usual standin
   next-at us q n i rule e r =
       let z : Site = record { place = q; rule = standing_rule n i } in
       let top = site-top ks F (pre ++ us) path m (on us) z m (omega arith) (ap (site_at ks F (pre ++ us)) at ∙ e) in
-      next-ruled ks standing own si oi (pre ++ us) z top ∙ ap (λ (l : List ℕ). ruled ks l (pre ++ us) q) r
+      let count : n + i - n ≡ i = omega arith in
+      next-ruled ks standing own si oi (pre ++ us) z top ∙ ap (λ (l : List ℕ). ruled ks l (pre ++ us) q) (ap (λ (k : ℕ). take k (drop n standing)) count ∙ r)
 
   -- guard(isData(succ(x)), y) -> guard(isData(x), y)
   pub data-succ : (ws : List ℕ) (e : ℕ) → past (arity_of ks) ws 1 0 ≡ Some e → N (pre ++ 7 ∷ 9 ∷ 2 ∷ ws) ≡ some (pre ++ 7 ∷ 9 ∷ ws)
@@ -332,3 +333,6 @@ module _ (ks standing own : List ℕ) (si oi : List Span) (usual : Usual standin
       let n : suc (k + 2) ≡ suc k + 2 = omega arith in
       subst (λ (n : ℕ). Leads N room n (pre ++ 7 ∷ 9 ∷ 2 ∷ v) (pre ++ ws)) n
       (pre ++ 7 ∷ 9 ∷ v, (data-succ v (0 + (k + 1)) (past_value ks k c ws 0 b), (omega (arith, r, l, length-append pre (7 ∷ 9 ∷ v)), value_passes room k c ws e b h (omega arith))))
+
+-- a value's last word is no earlier than its first
+pub ruleset test_laws = (succs-from)

@@ -17,8 +17,7 @@ use Rattle.theory.proofs.Readability.{is_var-word}
 use Rattle.words.specs.Terms.{arity_of, past, skip_at}
 use Rattle.words.proofs.Skips.{past-none, past-reach, past-later, skip-reach, skip-then}
 use Rattle.words.proofs.Parts.{tail-part}
-use Rattle.rules.specs.Matching.{takes, reached, fits, binds}
-use Rattle.rules.specs.Index.{no_span, at_slot}
+use Rattle.rules.specs.Matching.{takes, reached, fits, binds, no_words, taken_by}
 use Rattle.rules.specs.declared.index.Span.{Span}
 use Rattle.rules.proofs.Takes.{takes-var, takes_same, fits_next, binds-var, binds-plain}
 use Rattle.splice.specs.Right.{words_of, word_for, new}
@@ -29,21 +28,10 @@ use Rattle.step.proofs.Ruled.{past-var, past-plain, ruled-is}
 
 -- ---- the first of eight variables, with which those of a rule are compared
 -- the first n of m variables
-take-vars : (n m x : ℕ) → n ≤ m → take n (vars x m) ≡ vars x n
+pub take-vars : (n m x : ℕ) → n ≤ m → take n (vars x m) ≡ vars x n
 take-vars zero m x h = refl
 take-vars (suc n) zero x h = absurd (omega (arith, h))
 take-vars (suc n) (suc m) x h = ap (λ (l : List ℕ). x ∷ l) (take-vars n m (suc x) (omega (arith, h)))
-
--- the words from one place up to another are the first of eight variables
-pub first-vars : (ws : List ℕ) (at n : ℕ) → n ≤ 8 → take (at + n - at) (drop at ws) ≡ take n (vars 64 8) → take n (drop at ws) ≡ vars 64 n
-first-vars ws at n h e =
-    let there : n ≡ at + n - at = omega arith in
-    ap (λ (k : ℕ). take k (drop at ws)) there ∙ e ∙ take-vars n 8 64 h
-
-pub vars-first : (ws : List ℕ) (at n : ℕ) → n ≤ 8 → take n (drop at ws) ≡ vars 64 n → take (at + n - at) (drop at ws) ≡ take n (vars 64 8)
-vars-first ws at n h e =
-    let there : at + n - at ≡ n = omega arith in
-    ap (λ (k : ℕ). take k (drop at ws)) there ∙ e ∙ sym (take-vars n 8 64 h)
 
 -- ---- parts
 parts_join : (a b c : ℕ) (l : List ℕ) → a ≤ b → b ≤ c → part a b l ++ part b c l ≡ part a c l
@@ -56,7 +44,7 @@ parts_join a b c l h k =
 
 -- ---- what a right side's word stands for
 module _ (ss : List ℕ) (B : List Span) (w : ℕ) where
-  word-var : is_var w ≡ true → word_for ss B w ≡ part (at_slot B (w - 64)).from (at_slot B (w - 64)).to ss
+  word-var : is_var w ≡ true → word_for ss B w ≡ part (taken_by B (w - 64)).from (taken_by B (w - 64)).to ss
   unfolding word_for
   word-var v = ap (words_of ss) (sym (shows-part B w v))
 
@@ -77,7 +65,7 @@ fits-first ks ss ws w j f = go (takes ks ss w j) refl f
 module _ (ks ss : List ℕ) where
   -- of the terms from the place j on, the slot y has the term number x
   abbrev Slot : (j x y : ℕ) → List Span → Type 0
-  Slot j x y b = (past (arity_of ks) (drop j ss) x j ≡ Some (at_slot b y).from) × (skip_at ks ss (at_slot b y).from ≡ Some (at_slot b y).to)
+  Slot j x y b = (past (arity_of ks) (drop j ss) x j ≡ Some (taken_by b y).from) × (skip_at ks ss (taken_by b y).from ≡ Some (taken_by b y).to)
 
   -- the n variables from the word w on take the n terms from the place j on, and leave the slots below as they were
   record Passed (n w j : ℕ) (B b : List Span) : Type 0 where
@@ -86,18 +74,18 @@ module _ (ks ss : List ℕ) where
     ends_there : end_by b (vars w n) j ≡ to
     makes : new ss b (vars w n) ≡ part j to ss
     slot : (x : ℕ) → x < n → Slot j x (w + x - 64) b
-    below : (y : ℕ) → y < w - 64 → at_slot b y ≡ at_slot B y
+    below : (y : ℕ) → y < w - 64 → taken_by b y ≡ taken_by B y
 
   -- one variable more, before the others
   module _ (n w j e : ℕ) (B : List Span) (low : 64 ≤ w) (v : is_var w ≡ true) (hs : w - 64 < length B) (skips : skip_at ks ss j ≡ Some e)
       (b : List Span) (r : Passed n (suc w) e (set B (w - 64) (record { from = j; to = e })) b) where
-    slot_is : at_slot b (w - 64) ≡ record { from = j; to = e }
-    slot_is = r.below (w - 64) (omega (arith, low)) ∙ get_or-set_same B (w - 64) (record { from = j; to = e }) no_span hs
+    slot_is : taken_by b (w - 64) ≡ record { from = j; to = e }
+    slot_is = r.below (w - 64) (omega (arith, low)) ∙ get_or-set_same B (w - 64) (record { from = j; to = e }) no_words hs
 
-    start_is : (at_slot b (w - 64)).from ≡ j
+    start_is : (taken_by b (w - 64)).from ≡ j
     start_is = ap (λ (s : Span). s.from) slot_is
 
-    end_is : (at_slot b (w - 64)).to ≡ e
+    end_is : (taken_by b (w - 64)).to ≡ e
     end_is = ap (λ (s : Span). s.to) slot_is
 
     past_first : (m : ℕ) → past (arity_of ks) (drop j ss) (suc m) j ≡ past (arity_of ks) (drop e ss) m e
@@ -127,7 +115,7 @@ module _ (ks ss : List ℕ) where
               ap₂ ◌++◌ (word-var ss b w v ∙ ap₂ (λ (x y : ℕ). part x y ss) start_is end_is) r.makes
               ∙ parts_join j e r.to ss (omega (arith, k)) (omega (arith, l));
           slot = slot-more;
-          below = λ y h. r.below y (omega (arith, h)) ∙ get_or-set_other B (w - 64) y (record { from = j; to = e }) no_span (λ i. omega (arith, h, i));
+          below = λ y h. r.below y (omega (arith, h)) ∙ get_or-set_other B (w - 64) y (record { from = j; to = e }) no_words (λ i. omega (arith, h, i));
         }
 
   passed : (n w j : ℕ) (B : List Span) → 64 ≤ w → w + n ≤ 72 → length B ≡ 8 → fits ks ss (vars w n) j ≡ true → Passed n w j B (binds ks ss (vars w n) j B)
@@ -159,7 +147,7 @@ module _ (ks t : List ℕ) (p n a : ℕ) (within : p < length t) (root : get_or 
   rest = drop (p + 1) t
 
   abbrev b : List Span
-  b = binds ks (a ∷ rest) (a ∷ vars 64 n) 0 (replicate 8 no_span)
+  b = binds ks (a ∷ rest) (a ∷ vars 64 n) 0 (replicate 8 no_words)
 
   abbrev news : List ℕ → List ℕ
   news r = new (a ∷ rest) b r
@@ -168,12 +156,12 @@ module _ (ks t : List ℕ) (p n a : ℕ) (within : p < length t) (root : get_or 
   subject = drop-next t p within ∙ ap (λ (w : ℕ). w ∷ rest) root
 
   -- the variables take the terms behind the root
-  args : Passed ks (a ∷ rest) n 64 1 (replicate 8 no_span) b
+  args : Passed ks (a ∷ rest) n 64 1 (replicate 8 no_words) b
   args =
       let q : takes ks (a ∷ rest) a 0 ≡ Some 1 = takes_same ks (a ∷ rest) a 0 plain (omega arith) refl in
-      subst (Passed ks (a ∷ rest) n 64 1 (replicate 8 no_span))
-      (sym (binds-plain ks (a ∷ rest) (a ∷ vars 64 n) 0 0 (omega arith) (replicate 8 no_span) 1 plain q))
-      (passed ks (a ∷ rest) n 64 1 (replicate 8 no_span) (omega arith) (omega (arith, few)) refl
+      subst (Passed ks (a ∷ rest) n 64 1 (replicate 8 no_words))
+      (sym (binds-plain ks (a ∷ rest) (a ∷ vars 64 n) 0 0 (omega arith) (replicate 8 no_words) 1 plain q))
+      (passed ks (a ∷ rest) n 64 1 (replicate 8 no_words) (omega arith) (omega (arith, few)) refl
       (sym (fits_next ks (a ∷ rest) (a ∷ vars 64 n) 0 0 (omega arith) 1 q) ∙ sym (ap (λ (s : List ℕ). fits ks s (a ∷ vars 64 n) 0) subject) ∙ fit))
 
   passes-there : past (arity_of ks) rest n (p + 1) ≡ Some (p + args.to)
@@ -199,8 +187,8 @@ module _ (ks t : List ℕ) (p n a : ℕ) (within : p < length t) (root : get_or 
   unfolding skip_at
   new-arg x q e h hq he =
       let s = args.slot x h in
-      let i : ℕ = (at_slot b (64 + x - 64)).from in
-      let j : ℕ = (at_slot b (64 + x - 64)).to in
+      let i : ℕ = (taken_by b (64 + x - 64)).from in
+      let j : ℕ = (taken_by b (64 + x - 64)).to in
       let from : Some (p + i) ≡ Some q = sym (past-later (arity_of ks) rest x 1 p i s.0) ∙ hq in
       let eq : p + i ≡ q = cc in
       let at : drop q t ≡ drop i (a ∷ rest) = ap (λ (k : ℕ). drop k t) (sym eq) ∙ sym (drop-drop i p t) ∙ ap (drop i) subject in
@@ -210,20 +198,14 @@ module _ (ks t : List ℕ) (p n a : ℕ) (within : p < length t) (root : get_or 
       let z : j - i ≡ e - q = omega (arith, eq, ee) in
       word-var (a ∷ rest) b (64 + x) (is_var-word x (omega (arith, h, few))) ∙ ap₂ take z (sym at)
 
-  module _ (rule : List ℕ) (long : 2 ≤ length rule) (whole : 2 + get_or rule 0 0 + get_or rule 1 0 ≤ length rule) (is-left : left rule ≡ a ∷ vars 64 n) where
+  module _ (rule : List ℕ) (whole : 2 + get_or rule 0 0 + get_or rule 1 0 ≤ length rule) (is-left : left rule ≡ a ∷ vars 64 n) where
     used : (r : List ℕ) → right rule ≡ r → ruled ks rule t p ≡ some (take p t ++ (news r ++ drop (p + args.to) t))
     unfolding end_by
     used r is_right =
-        let l : ℕ = get_or rule 0 0 in
-        let m : ℕ = get_or rule 1 0 in
-        let i : 2 + l - 2 ≡ l = omega arith in
-        let k : 2 + l + m - (2 + l) ≡ m = omega arith in
-        let el : take (2 + l - 2) (drop 2 rule) ≡ a ∷ vars 64 n = ap (λ (x : ℕ). take x (drop 2 rule)) i ∙ is-left in
-        let er : take (2 + l + m - (2 + l)) (drop (2 + l) rule) ≡ r = ap (λ (x : ℕ). take x (drop (2 + l) rule)) k ∙ is_right in
         let es : part p (length t) t ≡ a ∷ rest = tail-part t p ∙ subject in
-        let ends = ap (λ (x : List ℕ). end_by b x 0) el ∙ ap (end_by b (vars 64 n)) (sym (past-plain b a 0 plain)) ∙ args.ends_there in
-        ruled-is ks rule t p long l m refl refl whole b (sym (ap₂ (λ (s x : List ℕ). binds ks s x 0 (replicate 8 no_span)) es el)) args.to (sym ends) inside
-        ∙ ap₂ (λ (s x : List ℕ). some (take p t ++ (new s b x ++ drop (p + args.to) t))) es er
+        let ends = ap (λ (x : List ℕ). end_by b x 0) is-left ∙ ap (end_by b (vars 64 n)) (sym (past-plain b a 0 plain)) ∙ args.ends_there in
+        ruled-is ks rule t p whole b (sym (ap₂ (λ (s x : List ℕ). binds ks s x 0 (replicate 8 no_words)) es is-left)) args.to (sym ends) inside
+        ∙ ap₂ (λ (s x : List ℕ). some (take p t ++ (new s b x ++ drop (p + args.to) t))) es is_right
 
     -- A CALL'S FIRST RULE, a(x1..xn) -> c(x1..xn), changes one word
     pub renamed : (c : ℕ) → is_var c ≡ false → right rule ≡ c ∷ vars 64 n → ruled ks rule t p ≡ some (set t p c)

@@ -8,6 +8,7 @@ use Rattle.rules.specs.declared.finding.Fitting.{Fitting}
 use Rattle.place.specs.declared.Site.{Site}
 use Rattle.place.specs.Path.{site_at}
 use Rattle.place.specs.Noted.{Numbered}
+use Rattle.place.specs.declared.Trail.{Trail}
 use Rattle.in_place.specs.declared.Change.{Change}
 use Rattle.in_place.specs.declared.Passed.{Passed}
 
@@ -22,14 +23,16 @@ Changes next room (Some s) t (Some c) = (0 < c.steps) × Leads next room c.steps
 Changes next room (Some s) t None = Unit {0}
 Changes next room None t c = c ≡ None
 
--- steps are made in place, at most `left`: from the first `size` words of t to those of u, the others being left; what comes next is at
--- the site, whose number on the path is noted
-pub record Passing (ks : List ℕ) (find : List ℕ → Maybe Fitting) (next : List ℕ → Option (List ℕ)) (room left size : ℕ) (t u path : List ℕ) (r : Passed) : Type 0 where
+-- steps are made in place, at most `left`: from the words t to u; what comes next is at the site, up to which the trail is noted
+pub record Passing (ks : List ℕ) (find : List ℕ → Maybe Fitting) (next : List ℕ → Option (List ℕ)) (room left : ℕ) (t u : List ℕ) (trail : Trail) (r : Passed) : Type 0 where
   pub within : r.steps ≤ left
-  pub leads : Leads next room r.steps (take size t) (take size u)
-  pub rest : drop size u ≡ drop size t
-  pub site : r.site ≡ site_at ks find (take size u) 0
-  pub numbered : Numbered ks (take size u) path r.site r.number
+  pub leads : Leads next room r.steps t u
+  pub site : r.site ≡ site_at ks find u 0
+  pub numbered : Numbered ks u trail.places.now r.site trail.last
+
+-- that something is not so
+abbrev pub Never : Type 0 → Type 0
+Never P = P → ⊥
 
 -- n variables in order, the first of which is x
 abbrev pub vars : ℕ → ℕ → List ℕ

@@ -1,7 +1,7 @@
 // Standard input: its lines, one at a time, or its first bytes, into a buffer that the caller lends. A read that fails is an error.
 #![tactic(auto)]
 
-ghost use Rattle.std.specs.Prelude.{◌≡◌, ◌-◌, ◌≤◌, length, IfOk, IfSome};
+ghost use Rattle.std.specs.Prelude.{[], ◌≡◌, ◌-◌, ◌≤◌, length, IfOk, IfSome};
 
 use arrayvec::{ArrayVec, CapacityError};
 use std::io;
@@ -52,7 +52,10 @@ pub struct Lines<const LONGEST: usize> {
 
 impl<const LONGEST: usize> Lines<LONGEST> {
     // Nothing is read yet.
-    pub fn of(stdin: Stdin) -> Self {
+    pub fn of(stdin: Stdin) -> Self
+        ensures nothing_to_come { result.chunk.at ≡ result.chunk.end }
+        ensures no_line { result.line.items ≡ [] }
+    {
         let chunk = Chunk {
             bytes: [0; 65536],
             at: 0,
@@ -70,11 +73,10 @@ impl<const LONGEST: usize> Lines<LONGEST> {
     pub fn next_line(&mut self) -> io::Result<Option<Result<&[u8], CapacityError>>>
         ensures { IfOk result (λ next. IfSome next (λ line. IfOk line (λ bytes. length bytes.now ≤ LONGEST))) }
     {
-        match self.read_line()? {
-            None => Ok(None),
-            Some(Ok(())) => Ok(Some(Ok(self.line.as_slice()))),
-            Some(Err(e)) => Ok(Some(Err(e))),
-        }
+        let Some(held) = self.read_line()? else {
+            return Ok(None);
+        };
+        Ok(Some(held.and(Ok(self.line.as_slice()))))
     }
 
     // Reads a line: whether it is held. The rest of one that is too long is passed over. A proved loop has to end, and nothing says that
@@ -85,22 +87,23 @@ impl<const LONGEST: usize> Lines<LONGEST> {
         for _ in 0..u64::MAX {
             self.chunk.fill(&mut self.stdin)?;
             let part = self.chunk.unread();
-            let len = part.len();
-            let stop = part.iter().position(|b| *b == b'\n').unwrap_or(len);
-            if held.is_ok() {
-                held = self.line.try_extend_from_slice(&part[..stop]);
+            match part.iter().position(|b| *b == b'\n') {
+                Some(newline) => {
+                    let text = &part[..newline];
+                    held = held.and_then(|()| self.line.try_extend_from_slice(text));
+                    self.chunk.pass(newline + 1);
+                    return Ok(Some(held));
+                }
+                None if part.is_empty() => break,
+                None => {
+                    held = held.and_then(|()| self.line.try_extend_from_slice(part));
+                    let len = part.len();
+                    self.chunk.pass(len);
+                }
             }
-            if stop < len {
-                self.chunk.pass(stop + 1);
-                return Ok(Some(held));
-            }
-            if len == 0 {
-                break;
-            }
-            self.chunk.pass(len);
         }
-        let nothing = held.is_ok() && self.line.is_empty();
-        Ok(if nothing { None } else { Some(held) })
+        let any = held.is_err() || !self.line.is_empty();
+        Ok(any.then_some(held))
     }
 }
 

@@ -1,58 +1,70 @@
--- The laws of digits, two to a byte: s are the bytes so far, w the digits that are left of f.
-use Prim.Native.Nat.{ℕ, ◌≤◌}
+-- The laws of digits, two to a byte.
+use Prim.Native.Nat.{ℕ, zero, suc, ◌+◌, ◌*◌, ◌/◌, ◌%◌, ◌≤◌}
 use mathlib.Core.Path.{◌≡◌, refl, sym, ap, ◌∙◌}
 use mathlib.Core.List.{List, [], ◌∷◌, ◌++◌}
 use native.Mathlib.Omega.{arith}
-use lib.ListN.{length, get_or, drop, length-append}
+use lib.ListN.{length, get_or, length-append}
 use borrow.Author.Tests.{le-leb, lt-leb}
 use Rattle.std.proofs.Common.{Option, Some, None, option_map, option_and_then, append_assoc, append-nil}
+use Rattle.std.specs.Simd.{first_chunks}
 use Rattle.lines.specs.Hex.{byte_of, pairs_of}
 use Rattle.lines.specs.Fields.{at_most}
 
-pairs_next : (w : List ℕ) → 2 ≤ length w → pairs_of w ≡ option_and_then (λ b. option_map (λ bs. b ∷ bs) (pairs_of (drop 2 w))) (byte_of (get_or w 0 0) (get_or w 1 0))
+-- the bytes that pairs of digits stand for
+abbrev pub bytes_of : List (List ℕ) → Option (List ℕ)
+bytes_of [] = Some []
+bytes_of (x ∷ xs) = option_and_then (λ b. option_map (λ bs. b ∷ bs) (bytes_of xs)) (byte_of (get_or x 0 0) (get_or x 1 0))
+
+pairs-even : (k : ℕ) (w : List ℕ) → length w ≡ k * 2 → bytes_of (first_chunks 2 k w) ≡ pairs_of w
 unfolding pairs_of
-pairs_next [] h = absurd (omega (arith, h))
-pairs_next (x ∷ []) h = absurd (omega (arith, h))
-pairs_next (x ∷ y ∷ w) h = refl
+pairs-even zero [] h = refl
+pairs-even zero (x ∷ w) h = absurd (omega (arith, h))
+pairs-even (suc k) [] h = absurd (omega (arith, h))
+pairs-even (suc k) (x ∷ []) h = absurd (omega (arith, h))
+pairs-even (suc k) (x ∷ y ∷ w) h = ap (λ o. option_and_then (λ b. option_map (λ bs. b ∷ bs) o) (byte_of x y)) (pairs-even k w (omega (arith, h)))
 
-module _ (f s w : List ℕ) (behind : option_map (λ bs. s ++ bs) (pairs_of w) ≡ pairs_of f) where
-  module _ (two : 2 ≤ length w) where
-    pub pairs-bad : None ≡ byte_of (get_or w 0 0) (get_or w 1 0) → pairs_of f ≡ None
-    pairs-bad e =
-        sym behind ∙ ap (option_map (λ bs. s ++ bs)) (pairs_next w two ∙ ap (option_and_then (λ b. option_map (λ bs. b ∷ bs) (pairs_of (drop 2 w)))) (sym e))
+-- all pairs stand for what the digits do, where none is left over
+pub pairs-whole : (w : List ℕ) (ps : List (List ℕ)) → ps ≡ first_chunks 2 (length w / 2) w → length w % 2 ≡ 0 → bytes_of ps ≡ pairs_of w
+pairs-whole w ps e h = ap bytes_of e ∙ pairs-even (length w / 2) w (omega (arith, h))
 
-    module _ (b : ℕ) (e : Some b ≡ byte_of (get_or w 0 0) (get_or w 1 0)) where
-      with-first : pairs_of f ≡ option_map (λ bs. s ++ bs) (option_map (λ bs. b ∷ bs) (pairs_of (drop 2 w)))
-      with-first =
-          sym behind ∙ ap (option_map (λ bs. s ++ bs)) (pairs_next w two ∙ ap (option_and_then (λ b. option_map (λ bs. b ∷ bs) (pairs_of (drop 2 w)))) (sym e))
+pub pairs-odd : (k : ℕ) (w : List ℕ) → length w ≡ k * 2 + 1 → pairs_of w ≡ None
+unfolding pairs_of
+pairs-odd k [] h = absurd (omega (arith, h))
+pairs-odd k (x ∷ []) h = refl
+pairs-odd zero (x ∷ y ∷ w) h = absurd (omega (arith, h))
+pairs-odd (suc k) (x ∷ y ∷ w) h = ap (λ o. option_and_then (λ b. option_map (λ bs. b ∷ bs) o) (byte_of x y)) (pairs-odd k w (omega (arith, h))) ∙ by-byte (byte_of x y)
+  where
+    by-byte : (o : Option ℕ) → option_and_then (λ (b : ℕ). option_map (λ (bs : List ℕ). b ∷ bs) None) o ≡ None
+    by-byte None = refl
+    by-byte (Some b) = refl
 
-      pub pairs-more : (t r : List ℕ) → t ≡ s ++ b ∷ [] → r ≡ drop 2 w → option_map (λ bs. t ++ bs) (pairs_of r) ≡ pairs_of f
-      pairs-more t r q p = rw (q, p) (by-rest (pairs_of (drop 2 w)) ∙ sym with-first)
+-- behind the bytes so far, s, stand those of the pairs to come, w; all of them are t
+module _ (t : Option (List ℕ)) (s : List ℕ) (w : List (List ℕ)) (behind : option_map (λ bs. s ++ bs) (bytes_of w) ≡ t) where
+  module _ (x : List ℕ) (r : List (List ℕ)) (e : w ≡ x ∷ r) where
+    first : t ≡ option_map (λ bs. s ++ bs) (bytes_of (x ∷ r))
+    first = sym behind ∙ ap (λ y. option_map (λ bs. s ++ bs) (bytes_of y)) e
+
+    pub pairs-bad : None ≡ byte_of (get_or x 0 0) (get_or x 1 0) → t ≡ None
+    pairs-bad k = first ∙ ap (λ o. option_map (λ bs. s ++ bs) (option_and_then (λ b. option_map (λ bs. b ∷ bs) (bytes_of r)) o)) (sym k)
+
+    module _ (b : ℕ) (k : Some b ≡ byte_of (get_or x 0 0) (get_or x 1 0)) where
+      with-first : t ≡ option_map (λ bs. s ++ bs) (option_map (λ bs. b ∷ bs) (bytes_of r))
+      with-first = first ∙ ap (λ o. option_map (λ bs. s ++ bs) (option_and_then (λ b. option_map (λ bs. b ∷ bs) (bytes_of r)) o)) (sym k)
+
+      pub pairs-more : (u : List ℕ) → u ≡ s ++ b ∷ [] → option_map (λ bs. u ++ bs) (bytes_of r) ≡ t
+      pairs-more u q = ap (λ y. option_map (λ bs. y ++ bs) (bytes_of r)) q ∙ by-rest (bytes_of r) ∙ sym with-first
         where
           by-rest : (o : Option (List ℕ)) → option_map (λ bs. (s ++ b ∷ []) ++ bs) o ≡ option_map (λ bs. s ++ bs) (option_map (λ bs. b ∷ bs) o)
           by-rest None = refl
           by-rest (Some bs) = ap Some (append_assoc s (b ∷ []) bs)
 
-      pub pairs-full : (m : ℕ) → m ≡ length s → option_and_then (at_most m) (pairs_of f) ≡ None
-      pairs-full m h = ap (option_and_then (at_most m)) with-first ∙ by-rest (pairs_of (drop 2 w))
+      pub pairs-full : (m : ℕ) → m ≡ length s → option_and_then (at_most m) t ≡ None
+      pairs-full m h = ap (option_and_then (at_most m)) with-first ∙ by-rest (bytes_of r)
         where
           by-rest : (o : Option (List ℕ)) → option_and_then (at_most m) (option_map (λ bs. s ++ bs) (option_map (λ bs. b ∷ bs) o)) ≡ None
           by-rest None = refl
           by-rest (Some bs) = rw (lt-leb (length (s ++ b ∷ bs)) m (omega (arith, h, length-append s (b ∷ bs))))
 
-  pub pairs-done : (m : ℕ) → length w ≡ 0 → length s ≤ m → option_and_then (at_most m) (pairs_of f) ≡ Some s
-  unfolding pairs_of
-  pairs-done m h k = by-left w behind h
-    where
-      by-left : (w : List ℕ) → option_map (λ bs. s ++ bs) (pairs_of w) ≡ pairs_of f → length w ≡ 0 → option_and_then (at_most m) (pairs_of f) ≡ Some s
-      by-left [] q h = ap (option_and_then (at_most m)) (sym q) ∙ ap (at_most m) (append-nil s) ∙ rw (le-leb (length s) m k) refl
-      by-left (x ∷ w) q h = absurd (omega (arith, h))
-
-  pub pairs-odd : length w ≡ 1 → pairs_of f ≡ None
-  unfolding pairs_of
-  pairs-odd h = by-left w behind h
-    where
-      by-left : (w : List ℕ) → option_map (λ bs. s ++ bs) (pairs_of w) ≡ pairs_of f → length w ≡ 1 → pairs_of f ≡ None
-      by-left [] q h = absurd (omega (arith, h))
-      by-left (x ∷ []) q h = sym q
-      by-left (x ∷ y ∷ w) q h = absurd (omega (arith, h))
+  pub pairs-done : w ≡ [] → (m : ℕ) → length s ≤ m → option_and_then (at_most m) t ≡ Some s
+  pairs-done e m k =
+      ap (option_and_then (at_most m)) (sym behind ∙ ap (λ y. option_map (λ bs. s ++ bs) (bytes_of y)) e) ∙ ap (at_most m) (append-nil s) ∙ rw (le-leb (length s) m k) refl

@@ -32,14 +32,16 @@ pub fn byte(high: u8, low: u8) -> Option<u8>
 fn pairs<const CAP: usize>(digits: &[u8]) -> Option<ArrayVec<u8, CAP>>
     ensures { option_map (λ v. v.items) result ≡ option_and_then (at_most CAP) (pairs_of digits.now) }
 {
+    let (pairs, odd) = digits.as_chunks::<2>();
+    if !odd.is_empty() {
+        return None;
+    }
     let mut bytes = ArrayVec::new();
-    let mut left = digits;
-    while let [high, low, rest @ ..] = left {
+    for [high, low] in pairs {
         let b = byte(*high, *low)?;
         bytes.try_push(b).ok()?;
-        left = rest;
     }
-    if left.is_empty() { Some(bytes) } else { None }
+    Some(bytes)
 }
 
 // The bytes that a field stands for, where there are at most `CAP`: "-" for none, or digits, two to a byte.

@@ -3,7 +3,8 @@ use mathlib.Core.Path.{◌≡◌, refl, sym, ap, ◌∙◌}
 use mathlib.Core.Bool.{Bool, true, false}
 use mathlib.Core.List.{List}
 use Prim.Native.Nat.{ℕ}
-use Rattle.std.specs.Prelude.{Option, Some, None, Result as Outcome, Ok, Err}
+use Rattle.std.specs.Prelude.{Option, Some, None, Result as Outcome, Ok, Err, ok_or}
+use Rattle.std.specs.Result.{result_ok}
 use lib.Dec.{leb}
 use lib.ListN.{length}
 use Rattle.theory.specs.Syntax.{pick}
@@ -22,8 +23,7 @@ use Rattle.own_lists.specs.Lists.{length_by, list_length, fitted, answer_by, lis
 
 -- the translator's answer, passed on
 abbrev told : Option ℕ → Outcome ℕ NoList
-told (Some n) = Ok n
-told None = Err Short
+told o = ok_or o Short
 
 told-fitted : (ws d : List ℕ) → told (answered ws d) ≡ fitted ws d
 told-fitted ws d = by-fit (leb (length ws) (length d))
@@ -32,19 +32,24 @@ told-fitted ws d = by-fit (leb (length ws) (length d))
     by-fit true = refl
     by-fit false = refl
 
+-- what is read of an answer as an option
+pub ok-of : {A E : Type 0} {x : A} (o : Outcome A E) → Some x ≡ result_ok o → Ok x ≡ o
+ok-of (Ok y) h = cc
+ok-of (Err e) h = cc
+
 -- a refused program
 module _ (program : List ℕ) (x : Refusal) (e : Err x ≡ checked_of (read_program program)) where
-  pub length-refused : None ≡ list_length program
+  pub length_refused : None ≡ list_length program
   unfolding list_length
-  length-refused = sym (ap length_by (program_refused program x e).1.0)
+  length_refused = sym (ap length_by (program_refused program x e).1.0)
 
-  pub answer-refused : (d : List ℕ) → Err Refused ≡ list_answer program d
+  pub answer_refused : (d : List ℕ) → Err Refused ≡ list_answer program d
   unfolding list_answer
-  answer-refused d = sym (ap (λ (o : Result Book). answer_by o d) (program_refused program x e).1.0)
+  answer_refused d = sym (ap (λ (o : Result Book). answer_by o d) (program_refused program x e).1.0)
 
-  pub written-refused : (d : List ℕ) → d ≡ list_written program d
+  pub written_refused : (d : List ℕ) → d ≡ list_written program d
   unfolding list_written
-  written-refused d = sym (ap (λ (o : Result Book). held_by o d) (program_refused program x e).1.0)
+  written_refused d = sym (ap (λ (o : Result Book). held_by o d) (program_refused program x e).1.0)
 
 -- an accepted one
 module _ (program : List ℕ) (c : Checked) (e : Ok c ≡ checked_of (read_program program)) where
@@ -52,17 +57,11 @@ module _ (program : List ℕ) (c : Checked) (e : Ok c ≡ checked_of (read_progr
   unfolding list_length
   length-read r h = let q = program_read program c e in ap Some (h q.0 q.1.0) ∙ sym (ap length_by q.1.0)
 
-  answer-read : (d : List ℕ) (o : Option ℕ) → OfOwnList program (λ ws. o ≡ answered ws d) → told o ≡ list_answer program d
+  pub answer_read : (d : List ℕ) (o : Option ℕ) → OfOwnList program (λ ws. o ≡ answered ws d) → told o ≡ list_answer program d
   unfolding list_answer
-  answer-read d o h =
+  answer_read d o h =
       let q = program_read program c e in
       ap told (h q.0 q.1.0) ∙ told-fitted (stored_rules (own_list (program_of q.0))) d ∙ sym (ap (λ (x : Result Book). answer_by x d) q.1.0)
-
-  pub answer-count : (d : List ℕ) (o : Option ℕ) → OfOwnList program (λ ws. o ≡ answered ws d) → (n : ℕ) → o ≡ Some n → Ok n ≡ list_answer program d
-  answer-count d o h n k = sym (ap told k) ∙ answer-read d o h
-
-  pub answer-short : (d : List ℕ) (o : Option ℕ) → OfOwnList program (λ ws. o ≡ answered ws d) → o ≡ None → Err Short ≡ list_answer program d
-  answer-short d o h k = sym (ap told k) ∙ answer-read d o h
 
   pub written_read : (d d' : List ℕ) → OfOwnList program (λ ws. d' ≡ filled ws d) → d' ≡ list_written program d
   unfolding list_written

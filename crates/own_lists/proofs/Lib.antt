@@ -1,3 +1,2 @@
--- What the checker's answer gives the translator, and what both say of the own list.
-mod Given
+-- What the checker's and the translator's answers say of the own list.
 mod Answers

@@ -1,6 +1,7 @@
 // The program with the largest own list: 16 exceptions, 32 functions of arity 4, 64 rules, and no byte of a term without its word. Each
 // left side has 32 words, its root among them; 63 right sides have 93 words, and one has 92: 8,192 bytes.
 use arrayvec::ArrayVec;
+use record::Kind;
 
 // A program's bytes, as many as one may have. What would pass the last is dropped.
 #[derive(Drop)]
@@ -17,24 +18,28 @@ impl Book {
         let _ = self.bytes.try_push(byte);
     }
 
+    fn put_kind(&mut self, kind: Kind) {
+        self.put(kind as u8);
+    }
+
     // n times succ over 0.
     fn put_value(&mut self, n: u8) {
         for _ in 0..n {
-            self.put(0x11);
+            self.put_kind(Kind::Succ);
         }
-        self.put(0x10);
+        self.put_kind(Kind::Zero);
     }
 
     fn put_exceptions(&mut self) {
         for e in 0..16 {
-            self.put(1);
+            self.put_kind(Kind::Exception);
             self.put(e);
         }
     }
 
     fn put_functions(&mut self) {
         for f in 0..32 {
-            self.put(2);
+            self.put_kind(Kind::Function);
             self.put(f);
             self.put(4);
         }
@@ -42,9 +47,9 @@ impl Book {
 
     // raise of e, handled by n times succ over 0.
     fn put_right(&mut self, e: u8, n: u8) {
-        self.put(0x16);
+        self.put_kind(Kind::Handle);
         self.put(e);
-        self.put(0x15);
+        self.put_kind(Kind::Raise);
         self.put(e);
         self.put_value(n);
     }
@@ -52,7 +57,7 @@ impl Book {
     // A rule of each function: two values on the left, then 0 and 0. The program's last rule has a word less on its right.
     fn put_rules(&mut self, first: u8, second: u8, last_right: u8) {
         for f in 0..32 {
-            self.put(3);
+            self.put_kind(Kind::Rule);
             self.put(f);
             self.put_value(first);
             self.put_value(second);
@@ -72,6 +77,6 @@ pub(crate) fn largest_program() -> Book {
     book.put_functions();
     book.put_rules(27, 0, 88);
     book.put_rules(0, 27, 87);
-    book.put(4);
+    book.put_kind(Kind::End);
     book
 }

@@ -8,8 +8,9 @@ mod shown;
 
 use built::largest_program;
 use lists::{list_length, write_list, write_question};
-use shown::{show_answer, show_rules, show_words, sum_of, unchanged};
+use shown::{show_answer, show_rules, sum_of, unchanged};
 use std::io;
+use words::shown::Spaced;
 
 fn figure2(rt: &impl Print) -> io::Result<()> {
     let program = [
@@ -31,7 +32,7 @@ fn question(rt: &impl Print, program: &[u8]) -> io::Result<()> {
     let mut words = [0u16; 2];
     let size = write_question(program, &asked, &mut words).unwrap_or(0);
     println!(rt; "question {size}")?;
-    show_words(rt, &words)
+    println!(rt; "{}", Spaced(&words))
 }
 
 // The list into all of a slice: the answer, and how many words are as they were.

@@ -3,7 +3,9 @@ ghost use Rattle.std.specs.Prelude.{◌≡◌};
 ghost use Rattle.own_lists.specs.Shown.{unchanged_in, mixed_of, sum_from};
 
 use super::lists::NoList;
+use rules::stored_rule::stored_at;
 use std::{fmt, io};
+use words::shown::Spaced;
 
 impl fmt::Display for NoList {
     fn fmt<W: fmt::Write>(&self, f: &mut fmt::Formatter<W>) -> fmt::Result {
@@ -24,25 +26,12 @@ pub(crate) fn show_answer(rt: &impl Print, answer: Result<usize, NoList>) -> io:
 
 // A rule to a line. Its two counts stand before its words.
 pub(crate) fn show_rules(rt: &impl Print, own: &[u16]) -> io::Result<()> {
-    let mut rest = own;
-    while let [left, right, ..] = rest {
-        let size = 2 + usize::from(*left) + usize::from(*right);
-        let (rule, behind) = rest.split_at(size.min(rest.len()));
-        show_words(rt, rule)?;
-        rest = behind;
+    let mut at = 0;
+    while let Some(rule) = stored_at(own, at) {
+        println!(rt; "{}", Spaced(&own[at..rule.past]))?;
+        at = rule.past;
     }
     Ok(())
-}
-
-// Words to a line.
-pub(crate) fn show_words(rt: &impl Print, words: &[u16]) -> io::Result<()> {
-    for (i, word) in words.iter().enumerate() {
-        if i > 0 {
-            print!(rt; " ")?;
-        }
-        print!(rt; "{word}")?;
-    }
-    println!(rt)
 }
 
 // How many words are as they were before.

@@ -2,7 +2,6 @@
 use mathlib.Core.Path.{◌≡◌, refl, sym, ap, subst, ◌∙◌}
 use mathlib.Core.Bool.{Bool, true, false}
 use mathlib.Core.List.{List, [], ◌∷◌}
-use mathlib.Core.Logic.{◌≢◌, ◌⊎◌, inl, inr}
 use Prim.Native.Nat.{ℕ, zero, suc, ◌+◌, ◌-◌, ◌≤◌, ◌<◌}
 use native.Mathlib.Nat.{sub-zero, zero-sub}
 use native.Mathlib.Numerals.{add-one}
@@ -11,7 +10,7 @@ use lib.Dec.{ltb}
 use lib.ListN.{length, get_or, take, drop, set}
 use lib.Seq.{get_or-take, get_or-set_same, get_or-set_other, take-take, take-nil}
 use borrow.Author.Tests.{lt-ltb, le-ltb, ltb-true, ltb-false}
-use Rattle.std.specs.Prelude.{Option, Some, None, is_some}
+use Rattle.std.specs.Prelude.{Option, Some, None}
 use Rattle.theory.specs.Syntax.{pick}
 use Rattle.theory.specs.Tree.{active}
 use Rattle.words.specs.Terms.{arity_of, past}
@@ -131,25 +130,20 @@ module _ (ks : List ℕ) (find : List ℕ → Option Fitting) (ws : List ℕ) wh
         site-top t i (omega arith)
         (site-deeper ks find ws (get_or path i 0) inside (get_or path (i + 1) 0) t (h.steps i (omega arith)) (ap (λ (j : ℕ). site_at ks find ws (get_or path j 0)) (add-one i) ∙ e))
 
-    -- on the way up, at the place number i: a rule fits there, or it is the root; none does and it is not
-    module _ (i : ℕ) (k : i ≤ n) (left : site_at ks find ws (get_or path i 0) ≡ here_in find ws (get_or path i 0)) (s : Option Site) (here : s ≡ here_in find ws (get_or path i 0)) where
-      pub climb-done : (is_some s ≡ true) ⊎ (i ≡ 0) → (s ≡ site_at ks find ws 0) × Numbered ks ws path s i
-      climb-done = go s here
-        where
-          go : (s : Option Site) → s ≡ here_in find ws (get_or path i 0) → (is_some s ≡ true) ⊎ (i ≡ 0) → (s ≡ site_at ks find ws 0) × Numbered ks ws path s i
-          go (Some t) e d = (sym (site-top t i k (left ∙ sym e)), (here_place (get_or path i 0) t (sym e), path-up ks ws path n h i k))
-          go None e (inl d) = cc
-          go None e (inr z) = (e ∙ sym left ∙ ap (λ (j : ℕ). site_at ks find ws (get_or path j 0)) z ∙ ap (site_at ks find ws) h.root, tt)
+    -- on the way up, at the place number i: a rule fits there; none does, and it is not the root, or it is
+    module _ (i : ℕ) (k : i ≤ n) (left : site_at ks find ws (get_or path i 0) ≡ here_in find ws (get_or path i 0)) where
+      pub climb_found : (t : Site) → Some t ≡ here_in find ws (get_or path i 0) → (Some t ≡ site_at ks find ws 0) × Numbered ks ws path (Some t) i
+      climb_found t e = (sym (site-top t i k (left ∙ sym e)), (here_place (get_or path i 0) t (sym e), path-up ks ws path n h i k))
 
-      pub climb-on : is_some s ≡ false → i ≢ 0 → site_at ks find ws (get_or path (i - 1) 0) ≡ here_in find ws (get_or path (i - 1) 0)
-      climb-on t z =
-          let pos : 0 < i = omega arith in
-          let e : i - 1 + 1 ≡ i = omega arith in
-          site-up (i - 1) (omega arith) (ap (λ (j : ℕ). site_at ks find ws (get_or path j 0)) e ∙ left ∙ sym here ∙ go s t)
-        where
-          go : (s : Option Site) → is_some s ≡ false → s ≡ None
-          go (Some f) t = cc
-          go None t = refl
+      pub climb_on : None ≡ here_in find ws (get_or path i 0) → 0 < i → site_at ks find ws (get_or path (i - 1) 0) ≡ here_in find ws (get_or path (i - 1) 0)
+      climb_on e z =
+          let m : i - 1 + 1 ≡ i = omega arith in
+          site-up (i - 1) (omega arith) (ap (λ (j : ℕ). site_at ks find ws (get_or path j 0)) m ∙ left ∙ sym e)
+
+      pub climb_out : None ≡ here_in find ws (get_or path i 0) → i ≤ 0 → None ≡ site_at ks find ws 0
+      climb_out e z =
+          let m : i ≡ 0 = omega arith in
+          e ∙ sym left ∙ ap (λ (j : ℕ). site_at ks find ws (get_or path j 0)) m ∙ ap (site_at ks find ws) h.root
 
 -- ---- a step leaves the path up to the rewritten place
 drop-take : (a q : ℕ) (l : List ℕ) → drop a (take q l) ≡ take (q - a) (drop a l)

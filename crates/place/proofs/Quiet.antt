@@ -23,7 +23,7 @@ use Rattle.rules.proofs.Roots.{searched, unruled, usual-begins}
 use Rattle.place.specs.Path.{below, here_at, here_in, or_here, path, site_at}
 use Rattle.place.specs.declared.Site.{Site}
 use Rattle.place.proofs.Path.{below_none, below-past, here-is}
-use Rattle.place.proofs.Noted.{here-inside}
+use Rattle.place.proofs.Noted.{here-inside, site-deepest}
 
 -- no part of 0, True or False may be rewritten
 base-inactive : (c : ℕ) → Base c → active c < 1
@@ -105,3 +105,6 @@ module _ (ks standing own : List ℕ) (si oi : List Span) (usual : Usual standin
         ap (λ (l : List ℕ). path ks find l 0 at) shape ∙ nothing-through (q - at) c (drop (q + 1) ws) at b,
         sym (here-inside ks find ws at inside) ∙ ap (λ (l : List ℕ). here_at find l at) shape ∙ nothing-here (q - at) c (drop (q + 1) ws) at b,
       )
+
+-- why nothing fits below where the way down ends
+pub ruleset way_ends = (site-deepest, value-quiet)

@@ -56,7 +56,7 @@ the_tree (some u) h = (u, refl)
 
 -- a place with the rule that was found for it; with any where none was
 abbrev pub ruled_at : ℕ → Maybe Fitting → Maybe Found
-ruled_at p f = Some (record { place = p; rule = unwrap_or f (Standing (record { at = 0; len = 0 })) })
+ruled_at p f = Some (record { place = p; rule = unwrap_or f (Standing (record { from = 0; to = 0 })) })
 
 -- `find` gives, at each tree's words, the first of the rules that fits the tree; its words are what `rule` gives
 module _ (ks : List ℕ) (rs : List Rule) (find : List ℕ → Maybe Fitting) (rule : Maybe Fitting → List ℕ)

@@ -5,23 +5,29 @@ use mathlib.Core.Bool.{Bool, true, false, ◌||◌}
 use mathlib.Core.List.{List, [], ◌∷◌}
 use native.Mathlib.Omega.{arith}
 use lib.Dec.{eqb}
-use lib.ListN.{length, get_or, drop, length-drop, drop_of_length-le}
+use lib.ListN.{length, get_or, take, drop, length-drop, drop_of_length-le}
 use borrow.Author.Tests.{ne_eqb}
 use Rattle.theory.proofs.Lists.{drop-next}
 use Rattle.theory.specs.Syntax.{pick}
 use Rattle.theory.specs.Bytes.{body_length, NextRecord, none_left, cut_short, next_is, with_body, next_record}
-use Rattle.std.specs.Prelude.{Option, Some, None}
+use Rattle.std.specs.Prelude.{Option, Some, None, Result, Ok, Err, MatchResult}
 use Rattle.record.specs.declared.Kind.{Kind}
 use Rattle.record.specs.declared.Kind.TheVariants.{Exception, Function, Rule, Variable, Raise, Handle, Builtin, Call}
+use Rattle.record.specs.declared.UnknownKind.{UnknownKind}
 use Rattle.record.specs.declared.Record.{Record}
-use Rattle.record.specs.Kind.{byte_of}
+use Rattle.record.specs.Kind.{byte_of, ReadsAs}
 use Rattle.record.specs.Record.{record_of, record_at}
 
 -- what is no kind has no body
-pub no_body : (n : ℕ) → ((k : Kind) → byte_of k ≡ n → ⊥) → body_length n ≡ 0
-no_body n none =
+no-body : (n : ℕ) → ((k : Kind) → byte_of k ≡ n → ⊥) → body_length n ≡ 0
+no-body n none =
     let other : (k : Kind) → eqb n (byte_of k) ≡ false = λ k. ne_eqb n (byte_of k) (λ e. none k (sym e)) in
     simp (other Exception, other Function, other Rule, other Variable, other Raise, other Handle, other Builtin, other Call)
+
+-- how many bytes of body: those of the kind that is read, and none where none is
+pub body-read : (n m : ℕ) (r : Result Kind UnknownKind) → MatchResult r (λ k. m ≡ body_length (byte_of k)) (λ e. m ≡ 0) → ReadsAs n r → m ≡ body_length n
+body-read n m (Ok k) h e = h ∙ ap body_length e
+body-read n m (Err u) h none = h ∙ sym (no-body n none)
 
 pick-most : (b : Bool) (x y : ℕ) → x ≤ 2 → y ≤ 2 → pick b x y ≤ 2
 pick-most true x y h k = h
@@ -40,6 +46,15 @@ bodied-short k (suc (suc n)) [] h m = refl
 bodied-short k (suc (suc n)) (b ∷ []) h m = refl
 bodied-short k (suc (suc n)) (b ∷ c ∷ bs) h m = absurd (omega arith)
 
+bodied-whole : (k n : ℕ) (bs : List ℕ) → n ≤ length bs → n ≤ 2 → record_of (with_body k n bs) ≡ Some (record { kind = k; body = get_or (take n bs) 0 0; second = get_or (take n bs) 1 0; len = 1 + n })
+bodied-whole k zero bs h m = refl
+bodied-whole k (suc zero) [] h m = absurd (omega arith)
+bodied-whole k (suc zero) (b ∷ bs) h m = refl
+bodied-whole k (suc (suc n)) [] h m = absurd (omega arith)
+bodied-whole k (suc (suc n)) (b ∷ []) h m = absurd (omega arith)
+bodied-whole k (suc (suc zero)) (b ∷ c ∷ bs) h m = refl
+bodied-whole k (suc (suc (suc n))) (b ∷ c ∷ bs) h m = absurd (omega arith)
+
 -- a body has two bytes at most
 pub body-most : (k : ℕ) → body_length k ≤ 2
 body-most k =
@@ -51,30 +66,13 @@ module _ (ws : List ℕ) (p k n : ℕ) (first : k ≡ get_or ws p 0) (body : n �
   next-at : p < length ws → next_record (drop p ws) ≡ with_body k n (drop (p + 1) ws)
   next-at h = rw (drop-next ws p h, body, first)
 
-  pub cut-short : p < length ws → length ws ≤ p + n → record_at ws p ≡ None
+  pub ends_within : p < length ws → length ws ≤ p + n → record_at ws p ≡ None
   unfolding record_at
-  cut-short h l = ap record_of (next-at h ∙ bodied-short _ n (drop (p + 1) ws) (rw length-drop (omega arith)) (rw body (body-most k)))
+  ends_within h l = ap record_of (next-at h ∙ bodied-short _ n (drop (p + 1) ws) (rw length-drop (omega arith)) (rw body (body-most k)))
 
-  pub bare : p < length ws → n ≡ 0 → record_at ws p ≡ Some (record { kind = k; body = 0; second = 0; len = n + 1 })
+  pub whole : p + n < length ws → (bs : List ℕ) → bs ≡ take n (drop (p + 1) ws) → record_at ws p ≡ Some (record { kind = k; body = get_or bs 0 0; second = get_or bs 1 0; len = 1 + n })
   unfolding record_at
-  bare h e = ap record_of (next-at h ∙ ap (λ i. with_body k i (drop (p + 1) ws)) e) ∙ ap (λ i. Some (record { kind = k; body = 0; second = 0; len = i + 1 })) (sym e)
-
-  module _ (b : ℕ) (more : p + 1 < length ws) (second : b ≡ get_or ws (p + 1) 0) where
-    pub with-one : n ≡ 1 → record_at ws p ≡ Some (record { kind = k; body = b; second = 0; len = n + 1 })
-    unfolding record_at
-    with-one e =
-        let l : p < length ws = omega arith in
-        rw (e, second) (ap record_of (next-at l ∙ ap (λ i. with_body k i (drop (p + 1) ws)) e ∙ ap (with_body k 1) (drop-next ws (p + 1) more)))
-
-    pub with_two : (c : ℕ) → p + 2 < length ws → c ≡ get_or ws (p + 2) 0 → 2 ≤ n → record_at ws p ≡ Some (record { kind = k; body = b; second = c; len = n + 1 })
-    unfolding record_at
-    with_two c m third two =
-        let most : n ≤ 2 = rw body (body-most k) in
-        let e : n ≡ 2 = omega arith in
-        let l : p < length ws = omega arith in
-        let z : p + 1 + 1 ≡ p + 2 = omega arith in
-        let d = drop-next ws (p + 1) more ∙ ap (λ i. get_or ws (p + 1) 0 ∷ drop i ws) z ∙ ap (λ r. get_or ws (p + 1) 0 ∷ r) (drop-next ws (p + 2) m) in
-        rw (e, second, third) (ap record_of (next-at l ∙ ap (λ i. with_body k i (drop (p + 1) ws)) e ∙ ap (with_body k 2) d))
+  whole h bs e = ap record_of (next-at (omega arith)) ∙ bodied-whole _ n (drop (p + 1) ws) (rw length-drop (omega arith)) (rw body (body-most k)) ∙ rw e
 
 -- behind a record stand the bytes past its length, which is 1 at least
 abbrev pub Behind : List ℕ → NextRecord → Type 0

@@ -1,6 +1,7 @@
 -- The kinds of records, by the numbers that the documents give them.
-use Rattle.std.specs.Prelude.{ℕ}
+use Rattle.std.specs.Prelude.{ℕ, ◌≡◌, ◌≢◌, Result, MatchResult}
 use Rattle.record.specs.declared.Kind.{Kind}
+use Rattle.record.specs.declared.UnknownKind.{UnknownKind}
 use Rattle.record.specs.declared.Kind.TheVariants.{Exception, Function, Rule, End, Zero, Succ, True, False, Variable, Raise, Handle, If, Builtin, Call}
 
 -- the byte of a kind
@@ -19,3 +20,7 @@ byte_of Handle = 0x16
 byte_of If = 0x17
 byte_of Builtin = 0x18
 byte_of Call = 0x19
+
+-- the kind of the byte, or that it is none's
+abbrev pub ReadsAs : ℕ → Result Kind UnknownKind → Type 0
+ReadsAs byte result = MatchResult result (λ kind. byte_of kind ≡ byte) (λ e. (kind : Kind) → byte_of kind ≢ byte)

@@ -1,9 +1,8 @@
 // One record of a program's or a question's bytes: the checker and the reading of terms as words share this one reading.
 #![tactic(auto)]
 
-ghost use Rattle.std.specs.Prelude.{◌≡◌, ◌≢◌, MatchOption};
-ghost use Rattle.record.specs.declared.Kind.{Kind};
-ghost use Rattle.record.specs.Kind.{byte_of};
+ghost use Rattle.std.specs.Prelude.{◌≡◌};
+ghost use Rattle.record.specs.Kind.{byte_of, ReadsAs};
 ghost use Rattle.record.specs.Record.{record_at};
 ghost use Rattle.theory.specs.Bytes.{body_length};
 
@@ -26,30 +25,40 @@ pub enum Kind {
     Call = 0x19,
 }
 
-impl Kind {
-    // The kind that a byte stands for, if it is one.
-    pub fn of(byte: u8) -> Option<Kind>
-        ensures { MatchOption result ((k : Kind) → byte_of k ≢ byte) (λ k. byte_of k ≡ byte) }
+// What a byte that stands for no kind is read as.
+#[derive(Clone, Copy, PartialEq, Eq)]
+pub struct UnknownKind;
+
+// The kind that a byte stands for, if it is one.
+impl TryFrom<u8> for Kind {
+    type Error = UnknownKind;
+
+    ghost try_from_gives = { ReadsAs };
+
+    fn try_from(byte: u8) -> Result<Kind, UnknownKind>
+        ensures { ReadsAs byte result }
     {
         match byte {
-            0x01 => Some(Kind::Exception),
-            0x02 => Some(Kind::Function),
-            0x03 => Some(Kind::Rule),
-            0x04 => Some(Kind::End),
-            0x10 => Some(Kind::Zero),
-            0x11 => Some(Kind::Succ),
-            0x12 => Some(Kind::True),
-            0x13 => Some(Kind::False),
-            0x14 => Some(Kind::Variable),
-            0x15 => Some(Kind::Raise),
-            0x16 => Some(Kind::Handle),
-            0x17 => Some(Kind::If),
-            0x18 => Some(Kind::Builtin),
-            0x19 => Some(Kind::Call),
-            _ => None,
+            0x01 => Ok(Kind::Exception),
+            0x02 => Ok(Kind::Function),
+            0x03 => Ok(Kind::Rule),
+            0x04 => Ok(Kind::End),
+            0x10 => Ok(Kind::Zero),
+            0x11 => Ok(Kind::Succ),
+            0x12 => Ok(Kind::True),
+            0x13 => Ok(Kind::False),
+            0x14 => Ok(Kind::Variable),
+            0x15 => Ok(Kind::Raise),
+            0x16 => Ok(Kind::Handle),
+            0x17 => Ok(Kind::If),
+            0x18 => Ok(Kind::Builtin),
+            0x19 => Ok(Kind::Call),
+            _ => Err(UnknownKind),
         }
     }
+}
 
+impl Kind {
     // The bytes of a record of this kind after its first.
     fn body_len(self) -> usize
         ensures { result ≡ body_length (byte_of self) }
@@ -81,24 +90,20 @@ pub struct Record {
 fn body_len(byte: u8) -> usize
     ensures { result ≡ body_length byte }
 {
-    match Kind::of(byte) {
-        Some(kind) => kind.body_len(),
-        None => 0,
-    }
+    Kind::try_from(byte).map_or(0, Kind::body_len)
 }
 
 // The record that starts at `at`: none where the bytes end before it or in it.
+#[tactic(auto, using(crate::proofs::Laws::nothing_left, crate::proofs::Laws::ends_within, crate::proofs::Laws::whole))]
 pub fn record_at(bytes: &[u8], at: usize) -> Option<Record>
     ensures { result ≡ record_at bytes.now at }
 {
     let kind = *bytes.get(at)?;
-    let size = body_len(kind);
-    let body = if size < 1 { 0 } else { *bytes.get(at + 1)? };
-    let second = if size < 2 { 0 } else { *bytes.get(at + 2)? };
+    let body = bytes.get(at + 1..at + 1 + body_len(kind))?;
     Some(Record {
         kind,
-        body,
-        second,
-        len: size + 1,
+        body: body.first().copied().unwrap_or(0),
+        second: body.get(1).copied().unwrap_or(0),
+        len: 1 + body.len(),
     })
 }

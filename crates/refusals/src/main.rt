@@ -2,27 +2,19 @@
 #![tactic(auto)]
 
 use arrayvec::ArrayVec;
-use checker::refusal::Refusal;
 use input::Lines;
 use std::io;
 
-// A refusal: which string, the number and the place.
-fn say(rt: &impl Print, about: &str, refusal: Refusal) -> io::Result<()> {
-    let number = refusal.reason.number();
-    let place = refusal.place;
-    println!(rt; "{about} {number} {place}")
-}
-
-// The program first, and the question only for a program that is accepted.
+// The program first, and the question only for a program that is accepted: the number and the place by which either is refused.
+#[tactic(auto, using(checker::proofs::Callers::within))]
 fn judge(rt: &impl Print, program: &[u8], question: &[u8]) -> io::Result<()> {
     let checked = match checker::check_program(program) {
         Ok(checked) => checked,
-        Err(refusal) => return say(rt, "program", refusal),
+        Err(refusal) => return println!(rt; "program {refusal}"),
     };
-    let end = 16 + checked.functions;
-    match checker::check_question(question, checked.exceptions, &checked.arities[16..end]) {
+    match checker::check_question(question, checked.exceptions, checked.own_arities()) {
         Ok(()) => println!(rt; "accepted"),
-        Err(refusal) => say(rt, "question", refusal),
+        Err(refusal) => println!(rt; "question {refusal}"),
     }
 }
 
@@ -31,10 +23,7 @@ fn read_fields(line: &[u8]) -> Option<(ArrayVec<u8, 10000>, ArrayVec<u8, 10000>)
     let mut fields = line.split(|b| *b == b' ');
     let program = lines::decode(fields.next()?)?;
     let question = lines::decode(fields.next()?)?;
-    match fields.next() {
-        None => Some((program, question)),
-        Some(_) => None,
-    }
+    fields.next().is_none().then_some((program, question))
 }
 
 // The answer to a line.
@@ -45,7 +34,7 @@ fn answer_line(rt: &impl Print, line: &[u8]) -> io::Result<()> {
     }
 }
 
-// Every line of the input. The turns have a bound that no run uses up.
+// Every line of the input. A proved loop has to end, and nothing says that the input does: its turns have a bound that no run uses up.
 fn answer_all(rt: &impl Print, lines: &mut Lines<20000>) -> io::Result<()> {
     for _ in 0..u64::MAX {
         match lines.next_line()? {

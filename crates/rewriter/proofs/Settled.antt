@@ -9,9 +9,8 @@ use lib.Dec.{leb}
 use lib.ListN.{length, take}
 use Rattle.theory.specs.Syntax.{pick}
 use Rattle.theory.proofs.Tests.{le-of-leb}
-use Rattle.theory.specs.Buffers.{over, padded}
 use Rattle.theory.proofs.CountedSteps.{over-begins}
-use Rattle.turns.specs.Run.{Last, stop, go, run, run_from, ran_of}
+use Rattle.turns.specs.Run.{Last, stop, go, run, run_from, ran_of, Leaves}
 use Rattle.turns.specs.declared.run.Ran.{Ran}
 use Rattle.turns.specs.declared.run.Ending.TheVariants.{Big}
 use Rattle.rewriter.specs.Read.{said_w, answer_w}
@@ -45,9 +44,13 @@ module _ (next : List ℕ → Option (List ℕ)) (room : ℕ) where
       both true e = run_fits allowance 0 t (le-of-leb (length t) room e)
       both false e = omega arith
 
--- the answer that the code puts together
-pub settled : (l : Last) (room : ℕ) (r : Ran) (f f' : List ℕ) (s : Said) → r ≡ ran_of l → length l.term ≤ room → room ≤ length f → f' ≡ over (padded room l.term) f
-    → s ≡ said_w r.ending (take r.len f') → ◌≡◌ {A = Answer} (record { said = s; steps = r.steps }) (answer_w l)
-settled l room r f f' s er h k ef es =
-    let p : take r.len f' ≡ l.term = ap₂ (λ (x : Ran) (g : List ℕ). take x.len g) er ef ∙ over-begins l.term _ f (omega arith) in
-    ap₂ (λ (s : Said) (n : ℕ). record { said = s; steps = n }) (es ∙ ap₂ (λ (x : Ran) (t : List ℕ). said_w x.ending t) er p) (ap (λ (x : Ran). x.steps) er)
+-- the answer that the code puts together, from what the run leaves
+pub settled : (l : Last) (room : ℕ) (r : Ran) (f f' s s' : List ℕ) (said : Said) → Leaves ran_of l room r f f' s s' → length l.term ≤ room → room ≤ length f → said ≡ said_w r.ending (take r.len f')
+    → Leaves answer_w l room (record { said = said; steps = r.steps }) f f' s s'
+settled l room r f f' s s' said ran h k es =
+    let p : take r.len f' ≡ l.term = ap₂ (λ (x : Ran) (g : List ℕ). take x.len g) ran.value ran.first_after ∙ over-begins l.term _ f (omega arith) in
+    record {
+      value = ap₂ {C = Answer} (λ (s : Said) (n : ℕ). record { said = s; steps = n }) (es ∙ ap₂ (λ (x : Ran) (t : List ℕ). said_w x.ending t) ran.value p) (ap (λ (x : Ran). x.steps) ran.value);
+      first_after = ran.first_after;
+      second_after = ran.second_after;
+    }

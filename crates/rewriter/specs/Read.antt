@@ -1,5 +1,5 @@
 -- The ending that a term's words show, and the answer of a run.
-use Rattle.std.specs.Prelude.{ℕ, zero, suc, ◌+◌, ◌-◌, List, [], ◌∷◌, ◌&&◌, eqb, leb, get_or}
+use Rattle.std.specs.Prelude.{ℕ, zero, suc, ◌+◌, ◌-◌, List, [], ◌∷◌, ◌&&◌, eqb, leb, get_or, Option, Some, None}
 use Rattle.theory.specs.Syntax.{pick}
 use Rattle.rules.specs.declared.index.Span.{Span}
 use Rattle.rules.specs.declared.lists.Lists.{Lists}
@@ -8,7 +8,8 @@ use Rattle.turns.specs.Run.{Last, run_from}
 use Rattle.turns.specs.declared.run.Ending.{Ending}
 use Rattle.turns.specs.declared.run.Ending.TheVariants.{Done}
 use Rattle.turns.specs.declared.run.Ending.TheVariants as ending
-use Rattle.words.specs.declared.base.Base.TheVariants as b
+use Rattle.words.specs.declared.base.Base.{Base}
+use Rattle.words.specs.Base.{base_of}
 use Rattle.rewriter.specs.declared.ending.Said.{Said}
 use Rattle.rewriter.specs.declared.ending.Said.TheVariants.{Value, Raised, Stuck, Out, Big}
 use Rattle.rewriter.specs.declared.Answer.{Answer}
@@ -22,10 +23,13 @@ abbrev pub fired_w : ℕ → ℕ → Said
 fired_w zero x = fire_w x
 fired_w (suc k) x = Stuck (suc k)
 
--- the ending of a term under k succ signs whose root is w, no succ, and whose next word is x
+-- the ending of a term under k succ signs whose root is w, no succ, and whose next word is x: a value, where w is a constant
+abbrev pub based : ℕ → Option Base → Said → Said
+based k (Some c) d = Value k c
+based k None d = d
+
 unfoldable pub root_w : ℕ → ℕ → ℕ → Said
-root_w w k x =
-    pick (eqb w 1) (Value k b.Zero) (pick (eqb w 3) (Value k b.True) (pick (eqb w 4) (Value k b.False) (pick (eqb w 6) (fired_w k x) (Stuck k))))
+root_w w k x = based k (base_of w) (pick (eqb w 6) (fired_w k x) (Stuck k))
 
 unfoldable pub read_w : List ℕ → ℕ → Said
 read_w [] k = Stuck k
@@ -46,4 +50,4 @@ run_on ks standing own standingIndex ownIndex question room allowance = run_from
 
 -- the same by the lists that are lent
 abbrev pub run_by : Lists → (question : List ℕ) (room allowance : ℕ) → Last
-run_by l = run_on l.arities.now l.standing.now l.own.now l.standing_index.now l.own_index.now
+run_by l = run_on l.arities.now l.standing.list.now l.own.list.now l.standing.index.now l.own.index.now

@@ -2,8 +2,11 @@
 ghost use Rattle.std.specs.Prelude.{◌≡◌};
 ghost use Rattle.rewriter.specs.Read.{fire_w, root_w, read_w, said_w};
 
+use std::fmt;
 use turns::run::Ending;
 use words::base::Base;
+use words::slices::get_or;
+use words::symbols::{EXCEPTION, FIRE, LAST_EXCEPTION, SUCC};
 
 // How rewriting ends.
 #[derive(Clone, Copy, PartialEq, Eq)]
@@ -20,24 +23,26 @@ pub enum Said {
     Big,
 }
 
-// The words of the symbols that tell an ending.
-const ZERO: u16 = 1;
+// The ending in three words: its kind, its amount and its constant, with "-" for what it has not.
+impl fmt::Display for Said {
+    fn fmt<W: fmt::Write>(&self, f: &mut fmt::Formatter<W>) -> fmt::Result {
+        match *self {
+            Said::Value(k, base) => write!(f, "value {k} {base}"),
+            Said::Raised(e) => write!(f, "exception {e} -"),
+            Said::Stuck(k) => write!(f, "stuck {k} -"),
+            Said::Out => write!(f, "out - -"),
+            Said::Big => write!(f, "big - -"),
+        }
+    }
+}
 
-const SUCC: u16 = 2;
-
-const TRUE: u16 = 3;
-
-const FALSE: u16 = 4;
-
-const FIRE: u16 = 6;
-
-// Fire over the word x: an exception's word is one of 32 to 47; over anything else it is stuck.
+// Fire over the word x: an exception, where it is one's; over anything else it is stuck.
 #[tactic(auto, unfolding(crate::specs::Read::fire_w))]
 fn fire_of(x: u16) -> Said
     ensures { result ≡ fire_w x }
 {
     match x {
-        32..=47 => Said::Raised(x - 32),
+        EXCEPTION..=LAST_EXCEPTION => Said::Raised(x - EXCEPTION),
         _ => Said::Stuck(0),
     }
 }
@@ -47,12 +52,10 @@ fn fire_of(x: u16) -> Said
 fn at_root(w: u16, k: usize, x: u16) -> Said
     ensures { result ≡ root_w w k x }
 {
-    match w {
-        ZERO => Said::Value(k, Base::Zero),
-        TRUE => Said::Value(k, Base::True),
-        FALSE => Said::Value(k, Base::False),
-        FIRE if k == 0 => fire_of(x),
-        _ => Said::Stuck(k),
+    match Base::of(w) {
+        Some(base) => Said::Value(k, base),
+        None if w == FIRE && k == 0 => fire_of(x),
+        None => Said::Stuck(k),
     }
 }
 
@@ -61,7 +64,7 @@ fn read_off(term: &[u16]) -> Said
     ensures { result ≡ read_w term.now 0 }
 {
     match term.iter().position(|w| *w != SUCC) {
-        Some(k) => at_root(term[k], k, term.get(k + 1).copied().unwrap_or(0)),
+        Some(k) => at_root(term[k], k, get_or(term, k + 1, 0)),
         None => Said::Stuck(term.len()),
     }
 }

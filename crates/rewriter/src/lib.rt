@@ -3,8 +3,8 @@
 
 pub mod ending;
 
-ghost use Rattle.std.specs.Prelude.{◌≡◌, ◌≤◌, length, replicate};
-ghost use Rattle.theory.specs.Buffers.{over, padded};
+ghost use Rattle.std.specs.Prelude.{◌≤◌, length};
+ghost use Rattle.turns.specs.Run.{Leaves};
 ghost use Rattle.rewriter.specs.Read.{answer_w, run_by};
 
 use crate::ending::{Said, said_of};
@@ -32,9 +32,7 @@ fn rewrite_by<R: Round>(
 ) -> Answer
     requires room_in_bounds { (room ≤ length first.old) × ((room ≤ length second.old) × (room ≤ 4096)) }
     requires allowance_bound { allowance ≤ 1000000 }
-    ensures value { result ≡ answer_w (run_by lists.entry question.now room allowance) }
-    ensures first_after { first.new ≡ over (padded room (run_by lists.entry question.now room allowance).term) first.old }
-    ensures second_after { second.new ≡ over (replicate room 0) second.old }
+    ensures { Leaves answer_w (run_by lists.entry question.now room allowance) room result first.old first.new second.old second.new }
 {
     let ran = start_by::<R>(lists, question, first, second, allowance, room);
     let said = said_of(ran.ending, &first[..ran.len]);
@@ -56,9 +54,7 @@ pub fn rewrite(
 ) -> Answer
     requires room_in_bounds { (room ≤ length first.old) × ((room ≤ length second.old) × (room ≤ 4096)) }
     requires allowance_bound { allowance ≤ 1000000 }
-    ensures value { result ≡ answer_w (run_by lists.entry question.now room allowance) }
-    ensures first_after { first.new ≡ over (padded room (run_by lists.entry question.now room allowance).term) first.old }
-    ensures second_after { second.new ≡ over (replicate room 0) second.old }
+    ensures { Leaves answer_w (run_by lists.entry question.now room allowance) room result first.old first.new second.old second.new }
 {
     rewrite_by::<InPlace>(lists, question, first, second, allowance, room)
 }
@@ -74,9 +70,7 @@ pub fn rewrite_each(
 ) -> Answer
     requires room_in_bounds { (room ≤ length first.old) × ((room ≤ length second.old) × (room ≤ 4096)) }
     requires allowance_bound { allowance ≤ 1000000 }
-    ensures value { result ≡ answer_w (run_by lists.entry question.now room allowance) }
-    ensures first_after { first.new ≡ over (padded room (run_by lists.entry question.now room allowance).term) first.old }
-    ensures second_after { second.new ≡ over (replicate room 0) second.old }
+    ensures { Leaves answer_w (run_by lists.entry question.now room allowance) room result first.old first.new second.old second.new }
 {
     rewrite_by::<EachStep>(lists, question, first, second, allowance, room)
 }

@@ -6,41 +6,18 @@
 ghost use Rattle.std.specs.Prelude.{◌≤◌};
 
 use checker::builtins::start_arities;
-use rewriter::ending::Said;
 use rewriter::{Answer, rewrite, rewrite_each};
 use rules::index::index_of;
+use rules::indexed::Indexed;
 use rules::lists::Lists;
 use rules::table::standing_list;
 use std::io;
-
-fn print_answer(rt: &impl Print, answer: Answer) -> io::Result<()> {
-    let steps = answer.steps;
-    match answer.said {
-        Said::Value(k, base) => print!(rt; "value {k} {base}")?,
-        Said::Raised(e) => print!(rt; "exception {e} -")?,
-        Said::Stuck(s) => print!(rt; "stuck {s} -")?,
-        Said::Out => print!(rt; "out - -")?,
-        Said::Big => print!(rt; "big - -")?,
-    }
-    println!(rt; " {steps}")
-}
+use words::shown::Spaced;
 
 // The words up to the first 0, which is no symbol.
 fn print_words(rt: &impl Print, words: &[u16]) -> io::Result<()> {
-    for (i, word) in words.iter().take_while(|w| **w != 0).enumerate() {
-        if i > 0 {
-            print!(rt; " ")?;
-        }
-        print!(rt; "{word}")?;
-    }
-    println!(rt)
-}
-
-fn say_differs(rt: &impl Print, same: bool) -> io::Result<()> {
-    if !same {
-        println!(rt; "differs")?;
-    }
-    Ok(())
+    let end = words.iter().position(|w| *w == 0).unwrap_or(words.len());
+    println!(rt; "{}", Spaced(&words[..end]))
 }
 
 // What is rewritten, by which lists, in how much room.
@@ -78,9 +55,11 @@ impl Subject<'_> {
             self.room,
         );
         print_words(rt, &first)?;
-        say_differs(rt, a == b)?;
-        say_differs(rt, first == first_each)?;
-        say_differs(rt, second == second_each)?;
+        for same in [a == b, first == first_each, second == second_each] {
+            if !same {
+                println!(rt; "differs")?;
+            }
+        }
         Ok(b)
     }
 
@@ -92,7 +71,7 @@ impl Subject<'_> {
             self.after(rt, steps)?;
         }
         let a = self.after(rt, most)?;
-        print_answer(rt, a)
+        println!(rt; "{} {}", a.said, a.steps)
     }
 }
 
@@ -112,10 +91,14 @@ fn trace<'a>(
     let own_index = index_of(own);
     let lists = Lists {
         arities,
-        standing: &standing,
-        own,
-        standing_index: &standing_index,
-        own_index: &own_index,
+        standing: Indexed {
+            list: &standing,
+            index: &standing_index,
+        },
+        own: Indexed {
+            list: own,
+            index: &own_index,
+        },
     };
     let subject = Subject {
         lists,

@@ -1,5 +1,5 @@
 -- The rule that is found is a whole rule, and its left side fits: over any words, no tree is asked for.
-use mathlib.Core.Path.{◌≡◌, refl, sym, ap, subst, ◌∙◌}
+use mathlib.Core.Path.{◌≡◌, refl, sym, ap, ap₂, subst, subst₂, ◌∙◌}
 use mathlib.Core.Bool.{Bool, true, false, false≢true}
 use mathlib.Core.List.{List, [], ◌∷◌}
 use Prim.Native.Nat.{ℕ, zero, suc, ◌+◌, ◌-◌, ◌≤◌}
@@ -12,12 +12,11 @@ use Rattle.std.specs.Prelude.{Option, Some, None, is_some}
 use Rattle.theory.proofs.Lists.{past-it}
 use Rattle.rules.specs.Matching.{fits}
 use Rattle.rules.specs.Index.{span_of, part_in}
-use Rattle.rules.specs.Finding.{stored, choose, first_from, first_fit, moved, first_in, first_at, standing_first, fitting_of, rule_of}
+use Rattle.rules.specs.Finding.{stored, choose, first_from, first_fit, moved, first_among, first_in, first_at, standing_first, fitting_of, rule_of}
 use Rattle.rules.specs.declared.index.Span.{Span}
-use Rattle.rules.specs.declared.finding.Place.{Place}
 use Rattle.rules.specs.declared.finding.Fitting.{Fitting}
 use Rattle.rules.proofs.Pass.{span-inside}
-use Rattle.rules.proofs.Placed.{part-within}
+use Rattle.rules.proofs.Placed.{part_within}
 
 -- the words of a stored rule are all there, and its left side fits the subject ss
 pub record Fitted (ks rule ss : List ℕ) : Type 0 where
@@ -48,11 +47,11 @@ module _ (ks ss : List ℕ) where
       })
 
   -- the rule at a place of a list is fitted
-  abbrev FittedIn : List ℕ → Option Place → Type 0
+  abbrev FittedIn : List ℕ → Option Span → Type 0
   FittedIn list None = Unit {0}
-  FittedIn list (Some p) = Fitted ks (take p.len (drop p.at list)) ss
+  FittedIn list (Some p) = Fitted ks (part_in list p) ss
 
-  choose-fitted : (list : List ℕ) (b f : Bool) (here on : Option Place) → (T b → f ≡ true → FittedIn list here) → FittedIn list on → FittedIn list (choose b f here on)
+  choose-fitted : (list : List ℕ) (b f : Bool) (here on : Option Span) → (T b → f ≡ true → FittedIn list here) → FittedIn list on → FittedIn list (choose b f here on)
   choose-fitted list false f here on p q = tt
   choose-fitted list true true here on p q = p tt refl
   choose-fitted list true false here on p q = q
@@ -65,31 +64,39 @@ module _ (ks ss : List ℕ) where
   walk-fitted list zero at (l ∷ []) e = tt
   walk-fitted list zero at (l ∷ r ∷ ws) e =
       choose-fitted list (leb (l + r) (length ws)) (fits ks ss (take l ws) 0) (stored at (2 + (l + r))) (first_from ks ss (l + r) (2 + at) ws)
-      (λ t f. subst (λ (x : List ℕ). Fitted ks (take (2 + (l + r)) x) ss) (sym e) (rule-fitted l r ws (leb→le (l + r) (length ws) t) f))
+      (λ t f. subst₂ (λ (n : ℕ) (x : List ℕ). Fitted ks (take n x) ss) len (sym e) (rule-fitted l r ws (leb→le (l + r) (length ws) t) f))
       (walk-fitted list (l + r) (2 + at) ws on)
     where
+      len : 2 + (l + r) ≡ at + (2 + (l + r)) - at
+      len = omega arith
+
       on : drop (2 + at) list ≡ ws
       on =
           let z : suc (suc at) ≡ 2 + at = omega arith in
           ap (λ (k : ℕ). drop k list) (sym z) ∙ one_on list (suc at) r ws (one_on list at l (r ∷ ws) e)
 
   -- in a part of a list
-  moved-fitted : (list : List ℕ) (s : Span) → s.from ≤ s.to → s.to ≤ length list → (p : Option Place) → first_fit ks (part_in list s) ss ≡ p → FittedIn (part_in list s) p → FittedIn list (moved s.from p)
+  moved-fitted : (list : List ℕ) (s : Span) → s.from ≤ s.to → s.to ≤ length list → (p : Option Span) → first_fit ks (part_in list s) ss ≡ p → FittedIn (part_in list s) p → FittedIn list (moved s.from p)
   moved-fitted list s h k None e f = tt
   moved-fitted list s h k (Some p) e f =
-      let w = part-within ks list ss s h k e in
+      let w = part_within ks list ss s (part_in list s) h k refl e in
+      let n : s.from + p.to - (s.from + p.from) ≡ p.to - p.from = omega arith in
       subst (λ (x : List ℕ). Fitted ks x ss)
-      (part-of-front p.len p.at (s.to - s.from) (drop s.from list) (omega (arith, w, h)) ∙ ap (take p.len) (drop-drop p.at s.from list)) f
+      (part-of-front (p.to - p.from) p.from (s.to - s.from) (drop s.from list) (omega (arith, w, h))
+      ∙ ap₂ take (sym n) (drop-drop p.from s.from list)) f
 
   at-fitted : (list : List ℕ) (index : List Span) → FittedIn list (first_at ks list index ss)
   unfolding first_at first_in
-  at-fitted list index =
-      let s = span_of index (length list) (get_or ss 0 0) in
-      let i = span-inside index (length list) (get_or ss 0 0) in
-      moved-fitted list s i.0 i.1 (first_fit ks (part_in list s) ss) refl (walk-fitted (part_in list s) 0 0 (part_in list s) refl)
+  at-fitted list index = go (span_of index (length list) (get_or ss 0 0)) refl
+    where
+      go : (o : Option Span) → span_of index (length list) (get_or ss 0 0) ≡ o → FittedIn list (first_among ks list o ss)
+      go None e = tt
+      go (Some s) e =
+          let i = span-inside index (length list) (get_or ss 0 0) e in
+          moved-fitted list s i.0 i.1 (first_fit ks (part_in list s) ss) refl (walk-fitted (part_in list s) 0 0 (part_in list s) refl)
 
   -- in either of two lists
-  two-fitted : (standing own : List ℕ) (p q : Option Place) → FittedIn standing p → FittedIn own q → is_some (standing_first p q) ≡ true → Fitted ks (rule_of standing own (standing_first p q)) ss
+  two-fitted : (standing own : List ℕ) (p q : Option Span) → FittedIn standing p → FittedIn own q → is_some (standing_first p q) ≡ true → Fitted ks (rule_of standing own (standing_first p q)) ss
   two-fitted standing own (Some p) q h k e = h
   two-fitted standing own None (Some p) h k e = k
   two-fitted standing own None None h k e = absurd (false≢true e)

@@ -1,7 +1,7 @@
 -- The rule that is handed back, by cases on where it stands.
 use mathlib.Core.Path.{◌≡◌}
 use mathlib.Core.List.{List}
-use Prim.Native.Nat.{ℕ}
+use Prim.Native.Nat.{ℕ, ◌-◌}
 use denote.Ref.{Bor}
 use Rattle.std.specs.Prelude.{Option, Some, None}
 use Rattle.words.proofs.Parts.{part-once}
@@ -12,8 +12,8 @@ use Rattle.rules.specs.declared.finding.Fitting.TheVariants.{Standing, Own}
 -- two results that satisfy the statement are one part: the same place, and the same words
 pub handed-once : (s o r r' : Bor (List ℕ)) (f : Option Fitting) → Handed s o r f → Handed s o r' f → (r.ref_ptr ≡ r'.ref_ptr) × (r.now ≡ r'.now)
 unfolding Handed
-handed-once s o r r' (Some (Standing p)) h h' = part-once s r r' p.at p.len h h'
-handed-once s o r r' (Some (Own p)) h h' = part-once o r r' p.at p.len h h'
+handed-once s o r r' (Some (Standing p)) h h' = part-once s r r' p.from (p.to - p.from) h h'
+handed-once s o r r' (Some (Own p)) h h' = part-once o r r' p.from (p.to - p.from) h h'
 handed-once s o r r' None h h' = part-once o r r' 0 0 h h'
 
 -- what the part holds

@@ -23,8 +23,7 @@ use Rattle.theory.proofs.Readability.{is_var-word, length-words}
 use Rattle.theory.proofs.Filling.{fill, fill-words}
 use Rattle.words.specs.Terms.{arity_of}
 use Rattle.words.proofs.Trees.{skip-tree}
-use Rattle.rules.specs.Matching.{takes, reached, fits, noted, binds, bound_to}
-use Rattle.rules.specs.Index.{no_span, at_slot}
+use Rattle.rules.specs.Matching.{no_words, taken_by, takes, reached, fits, noted, binds, bound_to}
 use Rattle.rules.specs.declared.index.Span.{Span}
 use Rattle.rules.proofs.Takes.{takes-var, takes_same, takes-other}
 
@@ -55,22 +54,22 @@ matched (some σ) = true
 module _ (ks ss : List ℕ) where
   -- the words that the slots give a variable
   abbrev slot : List Span → ℕ → List ℕ
-  slot B x = part (at_slot B x).from (at_slot B x).to ss
+  slot B x = part (taken_by B x).from (taken_by B x).to ss
 
   -- a slot that is filled
   abbrev Full : List Span → ℕ → Type 0
-  Full B x = (at_slot B x).from < (at_slot B x).to
+  Full B x = (taken_by B x).from < (taken_by B x).to
 
   -- the slots that are filled hold a substitution
   pub record Holds (B : List Span) (σ : Subst) : Type 0 where
     pub slots8 : length B ≡ 8
     pub slots : (x : ℕ) → x < 8 → Full B x → slot B x ≡ words (σ x)
 
-  start-holds : Holds (replicate 8 no_span) no_subst
+  start-holds : Holds (replicate 8 no_words) no_subst
   start-holds =
       record {
         slots8 = refl;
-        slots = λ x h l. let z = copies-same 8 x no_span in let f = ap (λ (s : Span). s.from) z in let t = ap (λ (s : Span). s.to) z in absurd (omega (arith, f, t, l));
+        slots = λ x h l. let z = copies-same 8 x no_words in let f = ap (λ (s : Span). s.from) z in let t = ap (λ (s : Span). s.to) z in absurd (omega (arith, f, t, l));
       }
 
   -- what is left to do after a part of the left side, whose variables are vs: their slots are filled, and those that were stay so
@@ -143,11 +142,11 @@ module _ (ks ss : List ℕ) where
       abbrev B' : List Span
       B' = set B x the_span
 
-      slot_same : (y : ℕ) → eqb x y ≡ true → at_slot B' y ≡ the_span
-      slot_same y e = let l : x < length B = omega (arith, h.slots8) in ap (at_slot B') (sym (eq-of-eqb x y e)) ∙ get_or-set_same B x the_span no_span l
+      slot_same : (y : ℕ) → eqb x y ≡ true → taken_by B' y ≡ the_span
+      slot_same y e = let l : x < length B = omega (arith, h.slots8) in ap (taken_by B') (sym (eq-of-eqb x y e)) ∙ get_or-set_same B x the_span no_words l
 
-      slot-other : (y : ℕ) → eqb x y ≡ false → at_slot B' y ≡ at_slot B y
-      slot-other y e = get_or-set_other B x y the_span no_span (λ q. ne-of-eqb x y e (sym q))
+      slot-other : (y : ℕ) → eqb x y ≡ false → taken_by B' y ≡ taken_by B y
+      slot-other y e = get_or-set_other B x y the_span no_words (λ q. ne-of-eqb x y e (sym q))
 
       set_full : (y : ℕ) → eqb x y ≡ true → Full B' y
       set_full y e = subst (λ (s : Span). s.from < s.to) (sym (slot_same y e)) (omega (arith, size-pos t))
@@ -236,28 +235,28 @@ module _ (ks ss : List ℕ) where
 
   -- ---- THE WHOLE LEFT SIDE against the tree at the front
   module _ (l t : Tree) (hl : Shaped (arity_of ks) l) (ht : Shaped (arity_of ks) t) (rest : List ℕ) (e : ss ≡ words t ++ rest) where
-    whole : Outcome (words l) [] 0 (0 + size t) (replicate 8 no_span) (match l t no_subst) (tree_vars l)
+    whole : Outcome (words l) [] 0 (0 + size t) (replicate 8 no_words) (match l t no_subst) (tree_vars l)
     whole =
-        subst (λ (qs : List ℕ). Outcome qs [] 0 (0 + size t) (replicate 8 no_span) (match l t no_subst) (tree_vars l)) (append-nil (words l))
-        (match-tree l t no_subst [] rest 0 (replicate 8 no_span) hl ht e start-holds)
+        subst (λ (qs : List ℕ). Outcome qs [] 0 (0 + size t) (replicate 8 no_words) (match l t no_subst) (tree_vars l)) (append-nil (words l))
+        (match-tree l t no_subst [] rest 0 (replicate 8 no_words) hl ht e start-holds)
 
     pub fits-is : fits ks ss (words l) 0 ≡ matched (match l t no_subst)
     unfolding fits
     fits-is = go (match l t no_subst) whole
       where
-        go : (o : Option Subst) → Outcome (words l) [] 0 (0 + size t) (replicate 8 no_span) o (tree_vars l) → fits ks ss (words l) 0 ≡ matched o
+        go : (o : Option Subst) → Outcome (words l) [] 0 (0 + size t) (replicate 8 no_words) o (tree_vars l) → fits ks ss (words l) 0 ≡ matched o
         go none h = h
         go (some τ) h = h.fit
 
     -- what the variables take, where the tree matches
     module _ (σ : Subst) (q : match l t no_subst ≡ some σ) where
       abbrev pub taken : List Span
-      taken = binds ks ss (words l) 0 (replicate 8 no_span)
+      taken = binds ks ss (words l) 0 (replicate 8 no_words)
 
       pub bound-is : (x : ℕ) → x < 8 → elem x (tree_vars l) ≡ true → bound_to ss taken x ≡ words (σ x)
       unfolding binds
       bound-is x h v =
-          let a = subst (λ (o : Option Subst). Outcome (words l) [] 0 (0 + size t) (replicate 8 no_span) o (tree_vars l)) q whole in
+          let a = subst (λ (o : Option Subst). Outcome (words l) [] 0 (0 + size t) (replicate 8 no_words) o (tree_vars l)) q whole in
           let f : taken ≡ a.bound = a.bind in
           ap (λ (b : List Span). bound_to ss b x) f ∙ a.holds.slots x h (a.filled x v)
 

@@ -11,8 +11,7 @@ use Rattle.theory.specs.Syntax.{pick}
 use Rattle.theory.specs.Words.{is_var}
 use Rattle.words.specs.Terms.{skip_at}
 use Rattle.words.proofs.Skips.{skip-reach}
-use Rattle.rules.specs.Matching.{takes, reached, noted, binds}
-use Rattle.rules.specs.Index.{no_span, at_slot}
+use Rattle.rules.specs.Matching.{no_words, taken_by, takes, reached, noted, binds}
 use Rattle.rules.specs.declared.index.Span.{Span}
 
 -- none of the spans ends before it starts
@@ -20,7 +19,7 @@ abbrev Ordered : List Span → Type 0
 Ordered [] = Unit {0}
 Ordered (s ∷ B) = (s.from ≤ s.to) × Ordered B
 
-ordered_at : (B : List Span) → Ordered B → (v : ℕ) → (at_slot B v).from ≤ (at_slot B v).to
+ordered_at : (B : List Span) → Ordered B → (v : ℕ) → (taken_by B v).from ≤ (taken_by B v).to
 ordered_at [] h v = omega arith
 ordered_at (s ∷ B) h zero = h.0
 ordered_at (s ∷ B) h (suc v) = ordered_at B h.1 v
@@ -61,11 +60,11 @@ module _ (ks ss : List ℕ) where
       go (Some e) q on = on e (noted-ordered B p (record { from = j; to = e }) (takes-on p j e q) h)
       go None q on = h
 
-  pub bound-ordered : (left : List ℕ) (b : List Span) → b ≡ binds ks ss left 0 (replicate 8 no_span) → (v : ℕ) → (at_slot b v).from ≤ (at_slot b v).to
-  bound-ordered left b e v = subst (λ (x : List Span). (at_slot x v).from ≤ (at_slot x v).to) (sym e) (ordered_at (binds ks ss left 0 (replicate 8 no_span)) (binds-ordered left 0 (replicate 8 no_span) zeros) v)
+  pub bound-ordered : (left : List ℕ) (b : List Span) → b ≡ binds ks ss left 0 (replicate 8 no_words) → (v : ℕ) → (taken_by b v).from ≤ (taken_by b v).to
+  bound-ordered left b e v = subst (λ (x : List Span). (taken_by x v).from ≤ (taken_by x v).to) (sym e) (ordered_at (binds ks ss left 0 (replicate 8 no_words)) (binds-ordered left 0 (replicate 8 no_words) zeros) v)
     where
       l : zero ≤ zero
       l = omega arith
 
-      zeros : Ordered (replicate 8 no_span)
+      zeros : Ordered (replicate 8 no_words)
       zeros = (l, (l, (l, (l, (l, (l, (l, (l, tt))))))))

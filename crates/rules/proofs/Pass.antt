@@ -1,5 +1,5 @@
 -- One step of the pass that makes an index, and the part that an index gives.
-use mathlib.Core.Path.{◌≡◌, refl, sym, ap, ap₂, ◌∙◌}
+use mathlib.Core.Path.{◌≡◌, refl, sym, ap, ap₂, subst, ◌∙◌}
 use mathlib.Core.Bool.{Bool, true, false}
 use mathlib.Core.List.{List, [], ◌∷◌}
 use Prim.Native.Nat.{ℕ, zero, suc, ◌+◌, ◌-◌, ◌<◌, ◌≤◌}
@@ -10,8 +10,9 @@ use lib.Dec.{ltb}
 use lib.ListN.{length, get_or, set, drop, drop_of_length-le, length-drop}
 use lib.Seq.{drop-cons, drop-drop, drop-nil, get_or-drop}
 use borrow.Author.Tests.{le-leb, lt-leb, ltb-true, ltb-false}
+use Rattle.std.specs.Prelude.{Option, Some, None}
 use Rattle.theory.specs.Syntax.{pick}
-use Rattle.rules.specs.Index.{slot_of, at_slot, extended, noted, index_from, least_of, span_of}
+use Rattle.rules.specs.Index.{slot_of, at_slot, extended, noted, index_from, least_of, clip, span_of}
 use Rattle.rules.specs.Stored.{NoneStored, StoredAt}
 use Rattle.rules.specs.declared.stored_rule.Stored.{Stored}
 use Rattle.rules.specs.declared.index.Span.{Span}
@@ -80,7 +81,7 @@ module _ (list : List ℕ) (at : ℕ) (index : List Span) where
       (ew ∙ ap (λ (i : ℕ). get_or list i 0) h.from) es (ev ∙ ap (extended (at_slot index s) at) h.past)
       ∙ ap (λ (i : ℕ). index_from 0 i (drop i list) (set index s v)) (sym h.past)
 
--- ---- the part that an index gives lies within the list
+-- ---- the lesser of two
 pub least-le : (a b : ℕ) → least_of a b ≤ b
 unfolding least_of
 least-le a b = go (ltb a b) refl
@@ -97,6 +98,17 @@ least-of a b h = go (ltb a b) refl
     go true e = refl
     go false e = let l = ltb-false a b e in omega arith
 
-pub span-inside : (index : List Span) (len w : ℕ) → ((span_of index len w).from ≤ (span_of index len w).to) × ((span_of index len w).to ≤ len)
+-- the part that an index gives lies within the list
+pub span-inside : (index : List Span) (len w : ℕ) {s : Span} → span_of index len w ≡ Some s → (s.from ≤ s.to) × (s.to ≤ len)
 unfolding span_of
-span-inside index len w = (least-le (at_slot index (slot_of w)).from _, least-le (at_slot index (slot_of w)).to len)
+span-inside index len w {s} e = subst Inside e (go (at_slot index (slot_of w)))
+  where
+    Inside : Option Span → Type 0
+    Inside None = Unit {0}
+    Inside (Some s) = (s.from ≤ s.to) × (s.to ≤ len)
+
+    go : (o : Option Span) → Inside (clip len o)
+    go None = tt
+    go (Some s) = (least-le s.from _, least-le s.to len)
+
+pub ruleset pass_steps = (pass-none)

@@ -16,11 +16,11 @@ use Rattle.theory.specs.Builtins.{function, builtin_funs, nth_fun, fun_of, numbe
 use Rattle.theory.specs.Tree.{Rule}
 use Rattle.theory.specs.Words.{stored_rules}
 use Rattle.theory.specs.Translation.{aux, numbers, gather, raise_rule, handle_rule, same_rule, other_rule, exn_rules, arg_rule, entry_rule, own_rules, fun_rules, common_rules, standing, own_list}
-use Rattle.rules.specs.Index.{slot_of, index_of, span_of, part_in}
+use Rattle.rules.specs.Index.{slot_of, at_slot, index_of, rules_with}
 use Rattle.rules.specs.declared.index.Span.{Span}
 use Rattle.rules.proofs.Stored.{root_of}
-use Rattle.rules.proofs.Scan.{scan, index-scan, scan-append, scan-other, scan-length, scan-first, Other, Mine, start_in, end_in, blank, blank-slot, part-between}
-use Rattle.rules.proofs.Indexed.{slot-le}
+use Rattle.rules.proofs.Scan.{scan, index-scan, scan-append, scan-other, scan-length, scan-first, Other, Mine, span_from, blank, blank-slot, rules-given}
+use Rattle.rules.proofs.Lossless.{slot-le}
 
 -- ---- rules of one slot that stand together
 module _ (w : ℕ) where
@@ -29,31 +29,21 @@ module _ (w : ℕ) where
 
   -- the part of a list that its index gives for w
   abbrev pub part_for : List ℕ → List ℕ
-  part_for list = part_in list (span_of (index_of list) (length list) w)
+  part_for list = rules_with list (index_of list) w
 
   together : (before own after : List Rule) → Other s before → Mine s own → Other s after → part_for (stored_rules (before ++ (own ++ after))) ≡ stored_rules own
-  together before [] after hb hm ha =
-      let rs : List Rule = before ++ after in
-      let all = scan-append before after 0 blank in
-      let x = scan-other s before hb 0 blank in
-      let y = scan-other s after ha (0 + length (stored_rules before)) (scan 0 before blank) in
-      (part-between (index_of (stored_rules rs)) w [] [] rs
-      (ap (start_in s) (index-scan rs ∙ all) ∙ y.0 ∙ x.0 ∙ ap (λ (x : Span). x.from) (blank-slot s)) (ap (end_in s) (index-scan rs ∙ all) ∙ y.1 ∙ x.1 ∙ ap (λ (x : Span). x.to) (blank-slot s))).1
-  together before (r ∷ own) after hb hm ha =
-      let mine : List Rule = r ∷ own in
-      let rs : List Rule = before ++ (mine ++ after) in
+  together before own after hb hm ha =
+      let rs : List Rule = before ++ (own ++ after) in
       let b : ℕ = length (stored_rules before) in
       let x1 : List Span = scan 0 before blank in
-      let all = scan-append before (mine ++ after) 0 blank ∙ scan-append mine after (0 + b) x1 in
-      let x = scan-other s before hb 0 blank in
-      let y = scan-other s after ha (0 + b + length (stored_rules mine)) (scan (0 + b) mine x1) in
+      let all = index-scan rs ∙ scan-append before (own ++ after) 0 blank ∙ scan-append own after (0 + b) x1 in
       let l : length {A = Span} blank ≡ 401 = refl in
       let k = slot-le w in
       let long : s < length x1 = let n = scan-length before 0 blank in omega (arith, n, l, k) in
-      let m = scan-first s r own hm (0 + b) x1 long (x.1 ∙ ap (λ (x : Span). x.to) (blank-slot s)) in
-      let from : start_in s (index_of (stored_rules rs)) ≡ b = ap (start_in s) (index-scan rs ∙ all) ∙ y.0 ∙ m.0 ∙ omega arith in
-      let to : end_in s (index_of (stored_rules rs)) ≡ b + length (stored_rules mine) = ap (end_in s) (index-scan rs ∙ all) ∙ y.1 ∙ m.1 ∙ omega arith in
-      (part-between (index_of (stored_rules rs)) w before mine after from to).1
+      let z : 0 + b ≡ b = omega arith in
+      rules-given (index_of (stored_rules rs)) w before own after
+      (ap (λ (i : List Span). at_slot i s) all ∙ scan-other s after ha (0 + b + length (stored_rules own)) (scan (0 + b) own x1)
+      ∙ scan-first s own hm (0 + b) x1 long (scan-other s before hb 0 blank ∙ blank-slot s) ∙ ap (λ (i : ℕ). span_from i own) z)
 
 -- ---- roots: a function's symbols have slots of their own
 slot-once : (v w : ℕ) → 256 ≤ w → w < 640 → slot_of v ≡ slot_of w → v ≡ w

@@ -1,18 +1,18 @@
 -- The rules of a root: the search looks where the index has them, and where it has none, nothing fits. The usual standing list begins with
 -- its opening.
-use mathlib.Core.Path.{◌≡◌, refl, sym, ap, ap₂, ◌∙◌}
+use mathlib.Core.Path.{◌≡◌, refl, sym, ap, ◌∙◌}
 use mathlib.Core.List.{List, ◌∷◌, ◌++◌}
 use Prim.Native.Nat.{ℕ, ◌-◌}
 use lib.ListN.{length, get_or, take, drop, take-append-drop}
-use Rattle.std.specs.Prelude.{None}
-use Rattle.rules.specs.Finding.{first_fit, moved, first_in, first_at, fitting_of}
+use Rattle.std.specs.Prelude.{Option, None}
+use Rattle.rules.specs.Finding.{first_fit, moved, first_among, first_in, first_at, fitting_of}
 use Rattle.rules.specs.Usual.{opening, NoRules, Spans, Usual}
 use Rattle.rules.specs.declared.index.Span.{Span}
 use Rattle.rules.proofs.Placed.{first-none, found-in-own}
 
 pub searched : (ks list : List ℕ) (index : List Span) (ss : List ℕ) (a b : ℕ) → Spans index (length list) (get_or ss 0 0) a b → first_at ks list index ss ≡ moved a (first_fit ks (take (b - a) (drop a list)) ss)
 unfolding first_at first_in
-searched ks list index ss a b h = ap₂ (λ (x y : ℕ). moved x (first_fit ks (take (y - x) (drop x list)) ss)) h.0 h.1
+searched ks list index ss a b h = ap (λ (s : Option Span). first_among ks list s ss) h
 
 pub unruled : (ks standing own : List ℕ) (si oi : List Span) (w : ℕ) (ws : List ℕ) → NoRules si w → NoRules oi w → fitting_of ks standing own si oi (w ∷ ws) ≡ None
 unruled ks standing own si oi w ws hs ho =

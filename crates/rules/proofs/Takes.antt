@@ -95,3 +95,8 @@ pub fits-other : (ks : List ℕ) (a b c : ℕ) (ws ps : List ℕ) → is_var a �
 fits-other ks a b c ws ps va vc n =
     fits_next ks (a ∷ b ∷ ws) (a ∷ c ∷ ps) 0 0 (omega arith) 1 (takes_same ks (a ∷ b ∷ ws) a 0 va (omega arith) refl)
     ∙ fits-stop ks (a ∷ b ∷ ws) (a ∷ c ∷ ps) 1 1 (omega arith) (takes-other ks (a ∷ b ∷ ws) c 1 vc (omega arith) n)
+
+-- the steps of the loops in `does_fit` and `bind`
+pub ruleset fit_steps = (fits-end, fits_next, fits-stop)
+
+pub ruleset bind_steps = (binds-end, binds-stop)

@@ -15,14 +15,14 @@ use Rattle.rules.specs.Finding.{stored, choose, first_from, first_fit}
 use Rattle.rules.specs.Matching.{fits}
 use Rattle.rules.specs.Stored.{NoneStored, StoredAt}
 use Rattle.rules.specs.declared.stored_rule.Stored.{Stored}
-use Rattle.rules.specs.declared.finding.Place.{Place}
+use Rattle.rules.specs.declared.index.Span.{Span}
 
 -- a rule that is found lies within the list
-abbrev pub Within : Option Place → ℕ → Type 0
+abbrev pub Within : Option Span → ℕ → Type 0
 Within None k = Unit {0}
-Within (Some p) k = p.at + p.len ≤ k
+Within (Some s) k = (s.from ≤ s.to) × (s.to ≤ k)
 
-choose-within : (b f : Bool) (here on : Option Place) (k : ℕ) → (T b → Within here k) → Within on k → Within (choose b f here on) k
+choose-within : (b f : Bool) (here on : Option Span) (k : ℕ) → (T b → Within here k) → Within on k → Within (choose b f here on) k
 choose-within false f here on k p q = tt
 choose-within true true here on k p q = p tt
 choose-within true false here on k p q = q
@@ -104,15 +104,15 @@ module _ (ks : List ℕ) where
       left : take (r.left.to - r.left.from) (drop r.left.from rules) ≡ take (get_or rules at 0) (drop (at + 2) rules)
       left = let n : r.left.to - r.left.from ≡ get_or rules at 0 = omega (arith, s.from, s.to) in ap₂ (λ (n i : ℕ). take n (drop i rules)) n s.from
 
-      pub stored-found : fits ks ss (take (r.left.to - r.left.from) (drop r.left.from rules)) 0 ≡ true → first_from ks ss 0 at (drop at rules) ≡ stored at (r.past - at)
-      stored-found e =
-          let n : 2 + (get_or rules at 0 + get_or rules (at + 1) 0) ≡ r.past - at = omega (arith, s.past) in
-          at-found ss rules at (get_or rules at 0) (get_or rules (at + 1) 0) (omega (arith, s.past, s.within)) refl refl (omega (arith, s.past, s.within)) (sym (ap (λ (w : List ℕ). fits ks ss w 0) left) ∙ e)
-          ∙ ap (stored at) n
+      pub stored-found : (l : List ℕ) → l ≡ take (r.left.to - r.left.from) (drop r.left.from rules) → fits ks ss l 0 ≡ true → first_from ks ss 0 at (drop at rules) ≡ Some (record { from = at; to = r.past })
+      stored-found l h e =
+          let n : at + (2 + (get_or rules at 0 + get_or rules (at + 1) 0)) ≡ r.past = omega (arith, s.past) in
+          at-found ss rules at (get_or rules at 0) (get_or rules (at + 1) 0) (omega (arith, s.past, s.within)) refl refl (omega (arith, s.past, s.within)) (sym (ap (λ (w : List ℕ). fits ks ss w 0) (h ∙ left)) ∙ e)
+          ∙ ap (λ (e : ℕ). Some (record { from = at; to = e })) n
 
-      pub stored-passed : fits ks ss (take (r.left.to - r.left.from) (drop r.left.from rules)) 0 ≡ false → first_from ks ss 0 at (drop at rules) ≡ first_from ks ss 0 r.past (drop r.past rules)
-      stored-passed e =
-          at_next ss rules at (get_or rules at 0) (get_or rules (at + 1) 0) (omega (arith, s.past, s.within)) refl refl (omega (arith, s.past, s.within)) (sym (ap (λ (w : List ℕ). fits ks ss w 0) left) ∙ e)
+      pub stored-passed : (l : List ℕ) → l ≡ take (r.left.to - r.left.from) (drop r.left.from rules) → fits ks ss l 0 ≡ false → first_from ks ss 0 at (drop at rules) ≡ first_from ks ss 0 r.past (drop r.past rules)
+      stored-passed l h e =
+          at_next ss rules at (get_or rules at 0) (get_or rules (at + 1) 0) (omega (arith, s.past, s.within)) refl refl (omega (arith, s.past, s.within)) (sym (ap (λ (w : List ℕ). fits ks ss w 0) (h ∙ left)) ∙ e)
           ∙ ap (λ (i : ℕ). first_from ks ss 0 i (drop i rules)) (sym s.past)
 
   within : (ss : List ℕ) (n at : ℕ) (ws : List ℕ) (k : ℕ) → at + length ws ≤ k → Within (first_from ks ss n at ws) k
@@ -122,10 +122,12 @@ module _ (ks : List ℕ) where
   within ss zero at (l ∷ []) k h = tt
   within ss zero at (l ∷ r ∷ ws) k h =
       choose-within (leb (l + r) (length ws)) (fits ks ss (take l ws) 0) (stored at (2 + (l + r))) (first_from ks ss (l + r) (2 + at) ws) k
-      (λ t. omega (arith, leb→le (l + r) (length ws) t)) (within ss (l + r) (2 + at) ws k (omega arith))
+      (λ t. (omega arith, omega (arith, leb→le (l + r) (length ws) t))) (within ss (l + r) (2 + at) ws k (omega arith))
 
   pub first-within-all : (ss rules : List ℕ) → Within (first_fit ks rules ss) (length rules)
   first-within-all ss rules = within ss 0 0 rules (length rules) (omega arith)
 
-  pub first-within : (ss rules : List ℕ) {p : Place} → first_fit ks rules ss ≡ Some p → p.at + p.len ≤ length rules
-  first-within ss rules e = subst (λ (p : Option Place). Within p (length rules)) e (first-within-all ss rules)
+  pub first-within : (ss rules : List ℕ) {s : Span} → first_fit ks rules ss ≡ Some s → (s.from ≤ s.to) × (s.to ≤ length rules)
+  first-within ss rules e = subst (λ (s : Option Span). Within s (length rules)) e (first-within-all ss rules)
+
+pub ruleset walk_steps = (at-none, stored-found, stored-passed)

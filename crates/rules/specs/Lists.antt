@@ -6,4 +6,4 @@ use Rattle.rules.specs.declared.lists.Lists.{Lists}
 
 -- the rule that fits, by these lists
 abbrev pub fitting_by : Lists → List ℕ → Option Fitting
-fitting_by l = fitting_of l.arities.now l.standing.now l.own.now l.standing_index.now l.own_index.now
+fitting_by l = fitting_of l.arities.now l.standing.list.now l.own.list.now l.standing.index.now l.own.index.now

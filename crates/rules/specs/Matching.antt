@@ -4,7 +4,6 @@ use Rattle.theory.specs.Syntax.{pick}
 use Rattle.theory.specs.Words.{is_var}
 use Rattle.theory.specs.Buffers.{part}
 use Rattle.words.specs.Terms.{skip_at}
-use Rattle.rules.specs.Index.{at_slot}
 use Rattle.rules.specs.declared.index.Span.{Span}
 
 -- the place past what the word p of a left side takes of the subject ss from the place j on: a variable takes a whole term, any other word must be the word there
@@ -20,6 +19,13 @@ unfoldable pub fits : List ℕ → List ℕ → List ℕ → ℕ → Bool
 fits ks ss [] j = true
 fits ks ss (p ∷ ps) j = reached (takes ks ss p j) (fits ks ss ps) false
 
+-- no words; where those stand that a variable takes
+abbrev pub no_words : Span
+no_words = record { from = 0; to = 0 }
+
+abbrev pub taken_by : List Span → ℕ → Span
+taken_by bound x = get_or bound x no_words
+
 -- the slots with x in that of the word p, where p is a variable
 unfoldable pub noted : List Span → ℕ → Span → List Span
 noted slots p x = pick (is_var p) (set slots (p - 64) x) slots
@@ -31,4 +37,4 @@ binds ks ss (p ∷ ps) j slots = reached (takes ks ss p j) (λ e. binds ks ss ps
 
 -- the words that a variable takes
 abbrev pub bound_to : List ℕ → List Span → ℕ → List ℕ
-bound_to ss bound x = part (at_slot bound x).from (at_slot bound x).to ss
+bound_to ss bound x = part (taken_by bound x).from (taken_by bound x).to ss

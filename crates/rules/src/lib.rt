@@ -4,6 +4,7 @@
 
 pub mod finding;
 pub mod index;
+pub mod indexed;
 pub mod lists;
 pub mod matching;
 pub mod search;

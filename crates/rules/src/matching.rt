@@ -1,20 +1,20 @@
 // Does a rule's left side fit the words of a term, and which of the words does each of its variables take?
 ghost use Rattle.std.specs.Prelude.{◌≡◌, replicate};
-ghost use Rattle.rules.specs.Index.{no_span};
-ghost use Rattle.rules.specs.Matching.{takes, fits, binds};
+ghost use Rattle.rules.specs.Matching.{no_words, takes, fits, binds};
 ghost use Rattle.theory.specs.Words.{is_var};
 
-use crate::index::{NO_SPAN, Span};
+use crate::index::Span;
+use words::symbols::{LAST_VARIABLE, VARIABLE};
 use words::terms::skip;
 
-// The words 64 to 71 are the variables.
+// Whether a word is a variable's.
 pub fn is_var(w: u16) -> bool
     ensures { result ≡ is_var w }
 {
-    (64..=71).contains(&w)
+    (VARIABLE..=LAST_VARIABLE).contains(&w)
 }
 
-// Where each variable's words start and end in the subject, a slot for each of eight variables; both 0 where it has none.
+// Where each variable's words stand in the subject, a slot for each of eight variables; a variable that the left side has not takes none.
 pub type Bound = [Span; 8];
 
 // The place past what the left side's word p takes of the subject from j on: a variable a whole term, any other word itself.
@@ -32,6 +32,7 @@ fn take_word(arities: &[u8], p: u16, subject: &[u16], j: usize) -> Option<usize>
 }
 
 // Whether the term at the front of subject fits the left side.
+#[tactic(auto, using(crate::proofs::Takes::fit_steps))]
 pub fn does_fit(arities: &[u8], left: &[u16], subject: &[u16]) -> bool
     ensures { result ≡ fits arities.now subject.now left.now 0 }
 {
@@ -46,17 +47,18 @@ pub fn does_fit(arities: &[u8], left: &[u16], subject: &[u16]) -> bool
 }
 
 // The words of subject that the left side's variables take.
+#[tactic(auto, using(crate::proofs::Takes::bind_steps))]
 pub fn bind(arities: &[u8], left: &[u16], subject: &[u16]) -> Bound
-    ensures { result ≡ binds arities.now subject.now left.now 0 (replicate 8 no_span) }
+    ensures { result ≡ binds arities.now subject.now left.now 0 (replicate 8 no_words) }
 {
-    let mut bound = [NO_SPAN; 8];
+    let mut bound = [Span::EMPTY; 8];
     let mut j = 0;
     for &p in left {
         let Some(e) = take_word(arities, p, subject, j) else {
             return bound;
         };
         if is_var(p) {
-            bound[usize::from(p - 64)] = Span { from: j, to: e };
+            bound[usize::from(p - VARIABLE)] = Span { from: j, to: e };
         }
         j = e;
     }

@@ -8,7 +8,7 @@ use crate::lists::Lists;
 pub struct Search<'a> {
     pub lists: Lists<'a>,
     pub usual: bool,
-    pub ghost known: { usual ≡ true → Usual lists.standing.now lists.standing_index.now lists.own_index.now },
+    pub ghost known: { usual ≡ true → Usual lists.standing.list.now lists.standing.index.now lists.own.index.now },
 }
 
 impl<'a> Search<'a> {

@@ -2,7 +2,8 @@
 ghost use Rattle.std.specs.Prelude.{◌≤◌, length, MatchOption};
 ghost use Rattle.rules.specs.Stored.{NoneStored, StoredAt};
 
-use crate::index::{Span, word_at};
+use crate::index::Span;
+use words::slices::get_or;
 
 // A rule of a stored list: where the words of its left side stand, and the place past it.
 #[derive(Clone, Copy)]
@@ -16,8 +17,8 @@ pub fn stored_at(list: &[u16], at: usize) -> Option<Stored>
     requires { at ≤ length list.now }
     ensures { MatchOption result (NoneStored list.now at) (λ r. StoredAt list.now at r) }
 {
-    let l = usize::from(word_at(list, at));
-    let r = usize::from(word_at(list, at + 1));
+    let l = usize::from(get_or(list, at, 0));
+    let r = usize::from(get_or(list, at + 1, 0));
     let from = at + 2;
     let past = from + (l + r);
     if list.len() < past {

@@ -7,8 +7,7 @@ use Rattle.theory.specs.Syntax.{pick}
 use Rattle.theory.specs.Words.{is_var}
 use Rattle.theory.specs.Buffers.{part}
 use Rattle.theory.proofs.Filling.{fill}
-use Rattle.rules.specs.Matching.{bound_to}
-use Rattle.rules.specs.Index.{at_slot}
+use Rattle.rules.specs.Matching.{bound_to, taken_by}
 use Rattle.rules.specs.declared.index.Span.{Span}
 use Rattle.splice.specs.declared.Shown.TheVariants.{Word, Part}
 use Rattle.splice.specs.Right.{words_of, word_for, new}
@@ -20,4 +19,4 @@ word-filled false ss s w = refl
 pub new-filled : (ss : List ℕ) (bound : List Span) (ws : List ℕ) → new ss bound ws ≡ fill (bound_to ss bound) ws
 unfolding word_for
 new-filled ss bound [] = refl
-new-filled ss bound (w ∷ ws) = ap₂ ◌++◌ (word-filled (is_var w) ss (at_slot bound (w - 64)) w) (new-filled ss bound ws)
+new-filled ss bound (w ∷ ws) = ap₂ ◌++◌ (word-filled (is_var w) ss (taken_by bound (w - 64)) w) (new-filled ss bound ws)

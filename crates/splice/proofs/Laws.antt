@@ -15,7 +15,7 @@ use Rattle.theory.specs.Syntax.{pick}
 use Rattle.theory.specs.Words.{is_var}
 use Rattle.theory.specs.Buffers.{over, put, part}
 use Rattle.words.proofs.Writes.{over-append, over-put}
-use Rattle.rules.specs.Index.{at_slot}
+use Rattle.rules.specs.Matching.{taken_by}
 use Rattle.rules.specs.declared.index.Span.{Span}
 use Rattle.splice.specs.declared.Shown.{Shown}
 use Rattle.splice.specs.declared.Shown.TheVariants.{Word, Part}
@@ -27,13 +27,10 @@ bound_of true x s w n q l k = let p : x ≡ s = cc in subst (λ (y : Span). (y.f
 bound_of false x s w n q l k = cc
 
 pub bound-within : {bound : List Span} {n : ℕ} (w : ℕ) (s : Span) → Parts bound n → shown_by bound w ≡ Part s → (s.from ≤ s.to) × (s.to ≤ n)
-bound-within {bound} {n} w s h q = bound_of (is_var w) (at_slot bound (w - 64)) s w n q (h.ordered (w - 64)) (h.within.inside (w - 64))
+bound-within {bound} {n} w s h q = bound_of (is_var w) (taken_by bound (w - 64)) s w n q (h.ordered (w - 64)) (h.within.inside (w - 64))
 
 pub length_part : (a e : ℕ) (l : List ℕ) → e ≤ length l → length (part a e l) ≡ e - a
 length_part a e l h = simp (length-take, length-drop) (omega arith)
-
-pub part-rest : (a : ℕ) (l : List ℕ) → part a (length l) l ≡ drop a l
-part-rest a l = take_all (length l - a) (drop a l) (rw length-drop (omega arith))
 
 length-words : (subject : List ℕ) (s : Shown) → ((p : Span) → s ≡ Part p → (p.from ≤ p.to) × (p.to ≤ length subject)) → length (words_of subject s) ≡ len_of s
 length-words subject (Word w) h = refl
@@ -71,9 +68,12 @@ new-more subject bound right i h =
     (new-append subject bound (take i right) (get_or right i 0 ∷ []) ∙ ap (λ (l : List ℕ). new subject bound (take i right) ++ l) (append-nil (word_for subject bound (get_or right i 0))))
 
 -- the first words of the right side come to no more than all of it
-pub new_len-le : (bound : List Span) (right : List ℕ) (i : ℕ) → new_len bound (take i right) ≤ new_len bound right
+new_len-le : (bound : List Span) (right : List ℕ) (i : ℕ) → new_len bound (take i right) ≤ new_len bound right
 new_len-le bound right i =
     omega (arith, new_len-append bound (take i right) (drop i right), ap (new_len bound) (take-append-drop i right))
+
+pub new_len-next : (bound : List Span) (right : List ℕ) (i : ℕ) → i < length right → new_len bound (take i right) + word_len bound (get_or right i 0) ≤ new_len bound right
+new_len-next bound right i h = omega (arith, new_len-more bound right i h, new_len-le bound right (i + 1))
 
 -- a word comes to at most one more than the subject has
 len-of : (s : Shown) (n : ℕ) → ((p : Span) → s ≡ Part p → (p.from ≤ p.to) × (p.to ≤ n)) → len_of s ≤ n + 1
@@ -125,10 +125,15 @@ three-parts h n t d =
 -- the two cases of a word
 module _ (bound : List Span) (w : ℕ) where
   abbrev shown : Bool → Shown
-  shown b = pick b (Part (at_slot bound (w - 64))) (Word w)
+  shown b = pick b (Part (taken_by bound (w - 64))) (Word w)
 
   pub shows-itself : is_var w ≡ false → Word w ≡ shown_by bound w
   shows-itself v = sym (ap shown v)
 
-  pub shows-part : is_var w ≡ true → Part (at_slot bound (w - 64)) ≡ shown_by bound w
+  pub shows-part : is_var w ≡ true → Part (taken_by bound (w - 64)) ≡ shown_by bound w
   shows-part v = sym (ap shown v)
+
+-- the steps of the count of the right side's words, and of their writing
+pub ruleset count_steps = (new_len-more, word_len-le)
+
+pub ruleset write_steps = (length-new, new_len-more, new_len-next, write-more, written-fits, written-big, take_all)

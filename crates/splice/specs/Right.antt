@@ -3,23 +3,23 @@ use Rattle.std.specs.Prelude.{ℕ, ◌+◌, ◌-◌, ◌≤◌, List, [], ◌∷
 use Rattle.theory.specs.Syntax.{pick}
 use Rattle.theory.specs.Words.{is_var}
 use Rattle.theory.specs.Buffers.{over, part}
-use Rattle.rules.specs.Index.{at_slot}
+use Rattle.rules.specs.Matching.{taken_by}
 use Rattle.rules.specs.declared.index.Span.{Span}
 use Rattle.splice.specs.declared.Shown.{Shown}
 use Rattle.splice.specs.declared.Shown.TheVariants.{Word, Part}
 
 -- each variable's part ends within the n words of the subject
 pub record Within (bound : List Span) (n : ℕ) : Type 0 where
-  pub inside : (v : ℕ) → (at_slot bound v).to ≤ n
+  pub inside : (v : ℕ) → (taken_by bound v).to ≤ n
 
 -- and ends no earlier than it starts
 pub record Parts (bound : List Span) (n : ℕ) : Type 0 where
   pub within : Within bound n
-  pub ordered : (v : ℕ) → (at_slot bound v).from ≤ (at_slot bound v).to
+  pub ordered : (v : ℕ) → (taken_by bound v).from ≤ (taken_by bound v).to
 
 -- what the right side's word w stands for: of a variable's word its part; else itself
 abbrev pub shown_by : List Span → ℕ → Shown
-shown_by bound w = pick (is_var w) (Part (at_slot bound (w - 64))) (Word w)
+shown_by bound w = pick (is_var w) (Part (taken_by bound (w - 64))) (Word w)
 
 -- the words that it stands for, and how many there are
 abbrev pub words_of : List ℕ → Shown → List ℕ

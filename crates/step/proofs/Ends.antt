@@ -18,8 +18,7 @@ use Rattle.theory.proofs.Readability.{is_var-word}
 use Rattle.words.specs.Terms.{arity_of, past, skip_at}
 use Rattle.words.proofs.Skips.{past-none, past-step, skip-then}
 use Rattle.words.proofs.Trees.{skip-tree}
-use Rattle.rules.specs.Matching.{takes, reached, fits, noted, binds}
-use Rattle.rules.specs.Index.{no_span, at_slot}
+use Rattle.rules.specs.Matching.{takes, reached, fits, noted, binds, no_words, taken_by}
 use Rattle.rules.specs.declared.index.Span.{Span}
 use Rattle.rules.proofs.Takes.{is_var-slot, takes-var}
 use Rattle.step.specs.Next.{past_by, end_by}
@@ -45,11 +44,11 @@ noted-length E p x l = go (is_var p) refl
     go true v = ap length (noted-var E p x v) ∙ simp length-set l
     go false v = ap length (noted-plain E p x v) ∙ l
 
-noted-there : (E : List Span) (p : ℕ) (x : Span) → length E ≡ 8 → is_var p ≡ true → at_slot (noted E p x) (p - 64) ≡ x
+noted-there : (E : List Span) (p : ℕ) (x : Span) → length E ≡ 8 → is_var p ≡ true → taken_by (noted E p x) (p - 64) ≡ x
 noted-there E p x l v =
     let s = (is_var-slot p v).1 in
     let i : p - 64 < length E = omega (arith, s, l) in
-    ap (λ (e : List Span). at_slot e (p - 64)) (noted-var E p x v) ∙ get_or-set_same E (p - 64) x no_span i
+    ap (λ (e : List Span). taken_by e (p - 64)) (noted-var E p x v) ∙ get_or-set_same E (p - 64) x no_words i
 
 module _ (ks ss : List ℕ) where
   -- the place past what the words of a left side take
@@ -107,7 +106,7 @@ module _ (ks ss : List ℕ) where
           any true k = ih x (past_by b p i) (taken B p j x) (noted-length B p (record { from = j; to = x }) l) f (inr k)
           any false k =
               ih x (past_by b p i) (taken B p j x) (noted-length B p (record { from = j; to = x }) l) f
-              (inl (sym (past-var b p i v) ∙ ap (λ (s : List Span). (at_slot s (p - 64)).to) (slots-kept ps x (taken B p j x) k) ∙ ap (λ (s : Span). s.to) (noted-there B p (record { from = j; to = x }) l v)))
+              (inl (sym (past-var b p i v) ∙ ap (λ (s : List Span). (taken_by s (p - 64)).to) (slots-kept ps x (taken B p j x) k) ∙ ap (λ (s : Span). s.to) (noted-there B p (record { from = j; to = x }) l v)))
       go (Some x) q f false v h ih =
           let b = binds ks ss ps x (taken B p j x) in
           ih x (past_by b p i) (taken B p j x) (noted-length B p (record { from = j; to = x }) l) f
@@ -174,7 +173,7 @@ module _ (ks ss : List ℕ) where
 
   -- THE END: the left side's words fit the tree at the front
   pub left-ends : (l t : Tree) (rest : List ℕ) → Shaped (arity_of ks) l → Shaped (arity_of ks) t → ss ≡ words t ++ rest → fits ks ss (words l) 0 ≡ true
-      → end_by (binds ks ss (words l) 0 (replicate 8 no_span)) (words l) 0 ≡ size t
+      → end_by (binds ks ss (words l) 0 (replicate 8 no_words)) (words l) 0 ≡ size t
   unfolding skip_at
   left-ends l t rest hl ht e f =
       let n = append-nil (words l) in
@@ -182,4 +181,4 @@ module _ (ks ss : List ℕ) where
       let s : past (arity_of ks) ss 1 0 ≡ Some (0 + size t) = skip-tree ks ss 0 t rest ht e in
       let k : Some r.to ≡ Some (0 + size t) = sym (r.passes 0 ∙ past-none (arity_of ks) (drop r.to ss) r.to) ∙ s in
       let m : r.to ≡ 0 + size t = cc in
-      end_is (words l) 0 0 (replicate 8 no_span) refl f (inl refl) ∙ sym (ap (λ (x : List ℕ). walk x 0) n) ∙ r.walks ∙ omega (arith, m)
+      end_is (words l) 0 0 (replicate 8 no_words) refl f (inl refl) ∙ sym (ap (λ (x : List ℕ). walk x 0) n) ∙ r.walks ∙ omega (arith, m)

@@ -3,8 +3,7 @@ use Rattle.std.specs.Prelude.{Option as Maybe, Some, None, ℕ, ◌+◌, ◌-◌
 use Rattle.std.proofs.Math.Option.{Option, none, some}
 use Rattle.theory.specs.Syntax.{pick}
 use Rattle.theory.specs.Words.{is_var}
-use Rattle.rules.specs.Matching.{binds}
-use Rattle.rules.specs.Index.{no_span, at_slot}
+use Rattle.rules.specs.Matching.{binds, no_words, taken_by}
 use Rattle.rules.specs.declared.index.Span.{Span}
 use Rattle.rules.specs.Finding.{fitting_of, rule_of}
 use Rattle.rules.specs.declared.lists.Lists.{Lists}
@@ -25,11 +24,11 @@ right rule = take (get_or rule 1 0) (drop (2 + get_or rule 0 0) rule)
 
 -- what the left side's variables take of the subject
 abbrev pub bound_by : List ℕ → List ℕ → List ℕ → List Span
-bound_by ks rule subject = binds ks subject (left rule) 0 (replicate 8 no_span)
+bound_by ks rule subject = binds ks subject (left rule) 0 (replicate 8 no_words)
 
 -- the place past what the word w of a left side takes from the place j on, by the ends of the variables' parts; past the whole side
 unfoldable pub past_by : List Span → ℕ → ℕ → ℕ
-past_by bound w j = pick (is_var w) (at_slot bound (w - 64)).to (j + 1)
+past_by bound w j = pick (is_var w) (taken_by bound (w - 64)).to (j + 1)
 
 unfoldable pub end_by : List Span → List ℕ → ℕ → ℕ
 end_by bound [] j = j
@@ -59,7 +58,7 @@ next_w ks standing own standingIndex ownIndex ws =
 
 -- the same by the lists that the code passes
 abbrev pub next_by : Lists → List ℕ → Option (List ℕ)
-next_by l ws = next_w l.arities.now l.standing.now l.own.now l.standing_index.now l.own_index.now ws
+next_by l ws = next_w l.arities.now l.standing.list.now l.own.list.now l.standing.index.now l.own.index.now ws
 
 -- the answer of a step within the room, and the second buffer after it
 abbrev pub made : Maybe ℕ → Next

@@ -11,13 +11,12 @@ use Rattle.theory.specs.Syntax.{zero_b, true_b, false_b, Terms, tnil, tcons, man
 use Rattle.theory.specs.Tree.{size, sizes}
 use Rattle.theory.specs.Translation.{tree, trees}
 use Rattle.theory.specs.Bytes.{TermRecord, constant_record, succ_record, if_record, variable_record, raise_record, handle_record, call_record, record_parts, record_words, first_terms, later_terms, term_from, terms_from}
-use Rattle.theory.proofs.Tests.{eqb-false}
 use Rattle.std.specs.Prelude.{Option, Some, None}
 use Rattle.record.specs.declared.Record.{Record}
 use Rattle.record.specs.Record.{record_at}
 use Rattle.term_words.specs.declared.roots.Root.{Root}
 use Rattle.term_words.specs.Records.{term_record_of, record_then, length_of, records_past, record_bytes, Whole, after, span_of, count_of, from, Passed}
-use Rattle.term_words.specs.Roots.{exception_of, exception_words, term_record_at, root_at}
+use Rattle.term_words.specs.Roots.{term_record_at, root_of, root_at, words_of}
 use Rattle.term_words.proofs.Laws.{whole_split, whole-many, whole-first, record-there, record-inside, after_none, span_none, count_none}
 
 -- a term's words: its root's and its parts'
@@ -57,14 +56,14 @@ count-words (k ∷ ks) (suc n) h =
     omega (arith, size-make k (terms_from ks) m, first-split (terms_from ks) a n, count-words ks (a + n) h)
 
 -- raise and handle, the records with an exception, are two words
-pub two-words : (k : TermRecord) → record_words k ≡ 1 + length (exception_words (exception_of k))
-two-words (constant_record b) = refl
-two-words succ_record = refl
-two-words if_record = refl
-two-words (variable_record x) = refl
-two-words (raise_record e) = refl
-two-words (handle_record e) = refl
-two-words (call_record k n) = refl
+pub two-words : (k : TermRecord) (next : ℕ) → record_words k ≡ words_of (root_of k next)
+two-words (constant_record b) next = refl
+two-words succ_record next = refl
+two-words if_record next = refl
+two-words (variable_record x) next = refl
+two-words (raise_record e) next = refl
+two-words (handle_record e) next = refl
+two-words (call_record k n) next = refl
 
 -- there are no more terms than bytes
 records-length : (arities : List ℕ) (n : ℕ) (l : List ℕ) → length (records_past arities n l) ≤ length l
@@ -104,8 +103,8 @@ pub going_start : (arities bytes : List ℕ) (p n : ℕ) → p ≤ length bytes 
 going_start arities bytes p n h w = record { inside = h; few = few-terms arities bytes p n w; whole = w; place = refl; words = zero-add (count_of (from arities bytes p) n); rest = refl }
 
 pub going-turn : (arities bytes : List ℕ) (p n owed next count : ℕ) (r : Root) → Going arities bytes p n owed next count → 0 < owed → r ≡ root_at arities bytes next
-    → Going arities bytes p n (owed - 1 + r.parts) r.next (count + (1 + length (exception_words r.exception)))
-going-turn arities bytes p n owed next count r g h e = subst (λ (x : Root). Going arities bytes p n (owed - 1 + x.parts) x.next (count + (1 + length (exception_words x.exception)))) (sym e) there
+    → Going arities bytes p n (owed - 1 + r.parts) r.next (count + words_of r)
+going-turn arities bytes p n owed next count r g h e = subst (λ (x : Root). Going arities bytes p n (owed - 1 + x.parts) x.next (count + words_of x)) (sym e) there
   where
     k : TermRecord
     k = term_record_at arities bytes next
@@ -125,7 +124,7 @@ going-turn arities bytes p n owed next count r g h e = subst (λ (x : Root). Goi
     eq : from arities bytes next ≡ k ∷ from arities bytes (next + record_bytes k)
     eq = record-there arities bytes next one
 
-    there : Going arities bytes p n (m + record_parts k) (next + record_bytes k) (count + (1 + length (exception_words (exception_of k))))
+    there : Going arities bytes p n (m + record_parts k) (next + record_bytes k) (count + words_of (root_of k (next + record_bytes k)))
     there =
         let w : Whole (from arities bytes (next + record_bytes k)) (record_parts k + m) = subst (λ (ks : List TermRecord). Whole ks (suc m)) eq (subst (Whole (from arities bytes next)) more g.whole) in
         let w' = subst (Whole (from arities bytes (next + record_bytes k))) swap w in
@@ -136,7 +135,7 @@ going-turn arities bytes p n owed next count r g h e = subst (λ (x : Root). Goi
           few = few-terms arities bytes (next + record_bytes k) (m + record_parts k) w';
           whole = w';
           place = omega (arith, g.place, s);
-          words = omega (arith, g.words, c, two-words k);
+          words = omega (arith, g.words, c, two-words k (next + record_bytes k));
           rest = sym (ap₂ after eq more ∙ ap (after (from arities bytes (next + record_bytes k))) swap) ∙ g.rest;
         }
 

@@ -5,10 +5,10 @@ use mathlib.Core.List.{List, [], ◌∷◌, ◌++◌, append_assoc, append-nil}
 use Prim.Native.Nat.{ℕ, zero, suc, ◌+◌, ◌-◌, ◌≤◌, ◌<◌}
 use native.Mathlib.Omega.{arith}
 use lib.Dec.{eqb}
-use Rattle.std.proofs.Common.{Option, None}
+use Rattle.std.proofs.Common.{Option, Some, None}
+use Rattle.std.proofs.lemmas.List.{set-get_or}
 use lib.ListN.{length, get_or, set, length-set}
 use lib.Seq.{get_or-set_same, get_or-set_other}
-use Rattle.theory.specs.Syntax.{pick}
 use Rattle.theory.specs.Words.{all_words}
 use Rattle.theory.specs.Translation.{trees}
 use Rattle.theory.specs.Bytes.{TermRecord, record_parts, first_terms}
@@ -19,11 +19,11 @@ use Rattle.generated.specs.Wrote.{Room, Wrote}
 use Rattle.generated.proofs.Writes.{wrote_none, wrote_as, wrote_then, room_as, room-first, room-then}
 use Rattle.term_words.specs.declared.roots.Root.{Root}
 use Rattle.term_words.specs.Records.{record_bytes, Whole, count_of, from, terms_at, Passed}
-use Rattle.term_words.specs.Roots.{term_record_at, root_at, root_words, exception_words}
-use Rattle.term_words.specs.Late.{kept, Clear}
+use Rattle.term_words.specs.Roots.{term_record_at, root_at, root_words, exception_words, words_of}
+use Rattle.term_words.specs.Late.{Clear}
 use Rattle.term_words.proofs.Laws.{whole-first, record-there, root-handles}
 use Rattle.term_words.proofs.Count.{Going, going_start, going-turn, going_end}
-use Rattle.term_words.proofs.Late.{out, out_none, out-set, out-all, out-record, kept-length}
+use Rattle.term_words.proofs.Late.{out, out_none, out-set, out-all, out-record}
 
 -- each term has a word at least
 whole-count : (ks : List TermRecord) (n : ℕ) → Whole ks n → n ≤ count_of ks n
@@ -69,21 +69,21 @@ module _ {arities bytes : List ℕ} {p n : ℕ} {u : Writer} {owed next : ℕ} {
   owes = owed - 1 + r.parts
 
   abbrev pub keeps : List (Option ℕ)
-  keeps = kept late owed r.word r.exception
+  keeps = set late owed r.handled
 
-  pub turned : Going arities bytes p n owes r.next (g.count + (1 + length (exception_words r.exception)))
+  pub turned : Going arities bytes p n owes r.next (g.count + words_of r)
   turned = going-turn arities bytes p n owed next g.count r g.going more read
 
   pub owed-inside : owed < length late
   owed-inside = omega (arith, whole-count (from arities bytes next) owed g.going.whole, g.going.words, g.slots)
 
-  keeps-inside : owes < length keeps
-  keeps-inside = omega (arith, whole-count (from arities bytes r.next) owes turned.whole, turned.words, g.slots, kept-length late owed r.word r.exception)
+  pub keeps-inside : owes < length keeps
+  keeps-inside = omega (arith, whole-count (from arities bytes r.next) owes turned.whole, turned.words, g.slots, length-set late owed r.handled)
 
   abbrev Read : Root → Type 0
   Read x =
       out (from arities bytes next) owed late
-      ≡ root_words x.word x.exception ++ (exception_words (get_or (kept late owed x.word x.exception) (owed - 1 + x.parts) None) ++ out (from arities bytes x.next) (owed - 1 + x.parts) (kept late owed x.word x.exception))
+      ≡ root_words x.word x.raised ++ (exception_words (get_or (set late owed x.handled) (owed - 1 + x.parts) None) ++ out (from arities bytes x.next) (owed - 1 + x.parts) (set late owed x.handled))
 
   out-read : Read r
   out-read =
@@ -98,53 +98,44 @@ module _ {arities bytes : List ℕ} {p n : ℕ} {u : Writer} {owed next : ℕ} {
   clear-turn : Clear (set keeps owes None) owes
   clear-turn = record { none = λ j h. each j h (eqb j owes) refl }
     where
-      high : (j : ℕ) → owes < j → (b : Bool) → eqb r.word 12 ≡ b → get_or (pick b (set late owed r.exception) late) j None ≡ None
-      high j h true e =
-          let two = root-handles arities bytes next r read (eq-of-eqb r.word 12 e) in
-          get_or-set_other late owed j r.exception None (λ q. omega (arith, two, h, q)) ∙ g.clear.none j (omega (arith, h))
-      high j h false e = g.clear.none j (omega arith)
+      high : (j : ℕ) → owes < j → (x : Option ℕ) → r.handled ≡ x → get_or keeps j None ≡ None
+      high j h (Some x) e = get_or-set_other late owed j r.handled None (λ q. omega (arith, root-handles arities bytes next r read x e, h, q)) ∙ g.clear.none j (omega (arith, h))
+      high j h None e = ap (λ (l : List (Option ℕ)). get_or l j None) (ap (set late owed) (e ∙ sym (g.clear.none owed (omega arith))) ∙ set-get_or late owed None) ∙ g.clear.none j (omega arith)
 
       each : (j : ℕ) → owes ≤ j → (b : Bool) → eqb j owes ≡ b → get_or (set keeps owes None) j None ≡ None
       each j h true e = subst (λ (i : ℕ). get_or (set keeps owes None) i None ≡ None) (sym (eq-of-eqb j owes e)) (get_or-set_same keeps owes None None keeps-inside)
       each j h false e =
           let other = ne-of-eqb j owes e in
-          get_or-set_other keeps owes j None None other ∙ high j (omega (arith, h, other)) (eqb r.word 12) refl
+          get_or-set_other keeps owes j None None other ∙ high j (omega (arith, h, other)) r.handled refl
 
   -- there is room for the root's words
   module _ (fits : Room (all_words (trees (first_terms n (terms_at arities bytes p)))) u) where
-    room-owed : Room (root_words r.word r.exception ++ (exception_words (get_or keeps owes None) ++ rest)) v
+    room-owed : Room (root_words r.word r.raised ++ (exception_words (get_or keeps owes None) ++ rest)) v
     room-owed = room_as v out-read (room-then g.done (out (from arities bytes next) owed late) g.wrote (room_as u g.all fits))
 
-    pub room-root : Room (root_words r.word r.exception) v
-    room-root = room-first (root_words r.word r.exception) (exception_words (get_or keeps owes None) ++ rest) v room-owed
+    pub room-root : Room (root_words r.word r.raised) v
+    room-root = room-first (root_words r.word r.raised) (exception_words (get_or keeps owes None) ++ rest) v room-owed
 
-  -- and behind them, with l the exceptions that are kept now, for what is kept for as many terms as are owed then
-  module _ (l : List (Option ℕ)) (so : l ≡ keeps) {b : Writer} (w : Wrote (root_words r.word r.exception) v b) where
-    pub owes-inside : owes < length l
-    owes-inside = subst (λ (x : List (Option ℕ)). owes < length x) (sym so) keeps-inside
+  -- and behind them for what is kept for as many terms as are owed then
+  module _ {b : Writer} (w : Wrote (root_words r.word r.raised) v b) where
+    pub room-late : Room (all_words (trees (first_terms n (terms_at arities bytes p)))) u → Room (exception_words (get_or keeps owes None)) b
+    room-late fits = room-first (exception_words (get_or keeps owes None)) rest b (room-then (root_words r.word r.raised) (exception_words (get_or keeps owes None) ++ rest) w (room-owed fits))
 
-    pub room-late : Room (all_words (trees (first_terms n (terms_at arities bytes p)))) u → Room (exception_words (get_or l owes None)) b
-    room-late fits =
-        subst (λ (x : List (Option ℕ)). Room (exception_words (get_or x owes None)) b) (sym so)
-        (room-first (exception_words (get_or keeps owes None)) rest b (room-then (root_words r.word r.exception) (exception_words (get_or keeps owes None) ++ rest) w (room-owed fits)))
-
-    pub putting-turn : {v' : Writer} → Wrote (exception_words (get_or l owes None)) b v' → Putting arities bytes p n u owes r.next (set l owes None) v' × (length (set l owes None) ≡ length late)
+    pub putting-turn : {v' : Writer} → Wrote (exception_words (get_or keeps owes None)) b v' → Putting arities bytes p n u owes r.next (set keeps owes None) v' × (length (set keeps owes None) ≡ length late)
     putting-turn {v'} x =
-        let root = root_words r.word r.exception in
-        let now = exception_words (get_or l owes None) in
-        let then = out (from arities bytes r.next) owes (set l owes None) in
-        let same : length (set l owes None) ≡ length late = length-set l owes None ∙ ap length so ∙ kept-length late owed r.word r.exception in (
+        let root = root_words r.word r.raised in
+        let now = exception_words (get_or keeps owes None) in
+        let then = out (from arities bytes r.next) owes (set keeps owes None) in
+        let same : length (set keeps owes None) ≡ length late = length-set keeps owes None ∙ length-set late owed r.handled in (
           record {
             done = g.done ++ (root ++ now);
-            count = g.count + (1 + length (exception_words r.exception));
+            count = g.count + words_of r;
             going = turned;
-            clear = subst (λ (x : List (Option ℕ)). Clear (set x owes None) owes) (sym so) clear-turn;
+            clear = clear-turn;
             slots = omega (arith, g.slots, same);
             wrote = wrote_then g.wrote (wrote_then w x);
             all = g.all
-                ∙ ap (g.done ++◌)
-                (subst (λ (x : List (Option ℕ)). out (from arities bytes next) owed late ≡ root ++ (exception_words (get_or x owes None) ++ out (from arities bytes r.next) owes x)) (sym so) out-read
-                ∙ ap (λ (x : List ℕ). root ++ (now ++ x)) (sym (out-set (from arities bytes r.next) owes owes None l (omega arith))) ∙ sym (append_assoc root now then))
+                ∙ ap (g.done ++◌) (out-read ∙ ap (λ (x : List ℕ). root ++ (now ++ x)) (sym (out-set (from arities bytes r.next) owes owes None keeps (omega arith))) ∙ sym (append_assoc root now then))
                 ∙ sym (append_assoc g.done (root ++ now) then);
           },
           same,

@@ -26,6 +26,7 @@ use Rattle.term_words.proofs.Laws.{whole-many}
 use Rattle.term_words.proofs.Count.{count-words}
 use Rattle.generated.specs.declared.writing.Writer.{Writer}
 use Rattle.generated.specs.Wrote.{Room, Wrote}
+use Rattle.words.proofs.Writes.{put-none}
 use Rattle.generated.specs.CallRules.{call_rules}
 use Rattle.generated.proofs.Writes.{room_as, room-first, room-then}
 use Rattle.translator.specs.declared.Source.{Source}
@@ -188,6 +189,8 @@ if-same x p f n e = ap (λ (b : Bool). pick b (stored_rule (rule_at x p (16 + f)
 
 pub if_other : (x : Source) (p f n : ℕ) → (get_or x.program.now (p + 1) 0 ≡ f → ⊥) → rule_if x p f n ≡ []
 if_other x p f n e = ap (λ (b : Bool). pick b (stored_rule (rule_at x p (16 + f) n)) []) (eqb-false (get_or x.program.now (p + 1) 0) f e)
+
+pub ruleset none_of_others = (if_other, put-none)
 
 -- the rules of a function: its entry and its arguments, then its own
 pub fun-words : (x : Source) (f n : ℕ) → n ≡ get_or x.arities.now (16 + f) 0

@@ -2,3 +2,4 @@
 pub mod Laws
 pub mod Counts
 pub mod Accepted
+pub mod Given

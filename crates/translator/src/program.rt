@@ -4,7 +4,7 @@ ghost use Rattle.translator.specs.Listed.{Listed, Small};
 ghost use Rattle.translator.specs.Accepted.{Accepted};
 
 use super::Source;
-use term_words::roots::arity;
+use words::slices::get_or;
 
 // An accepted program. That each rule stands at its opening goes by cases, so the struct holds it truncated, as one proof at most.
 #[derive(Clone, Copy)]
@@ -45,7 +45,7 @@ impl<'a> Function<'a> {
         Function {
             source,
             number,
-            arity: arity(source.arities, 16 + number),
+            arity: get_or(source.arities, usize::from(16 + number), 0),
         }
     }
 }

@@ -2,16 +2,17 @@
 use mathlib.Core.Path.{◌≡◌, refl, sym, ap, ap₂, subst, ◌∙◌}
 use mathlib.Core.Bool.{Bool, true, false, not}
 use mathlib.Core.Option.{Option, none, some}
-use mathlib.Core.List.{List, []}
+use mathlib.Core.List.{List, [], ◌++◌}
 use Prim.Native.Nat.{ℕ, zero, suc, ◌+◌, ◌-◌, ◌≤◌, ◌<◌}
 use native.Mathlib.Nat.{add-zero, sub-zero}
 use native.Mathlib.Omega.{arith}
 use lib.Dec.{leb}
-use lib.ListN.{length, take, drop, replicate, length-append, length-replicate}
-use lib.Seq.{length-take-le, drop-drop}
+use lib.ListN.{length, take, drop, replicate, length-append, length-drop, length-replicate}
+use lib.Seq.{length-take-le, take_at, drop_at, drop-drop}
 use borrow.Author.Tests.{le-leb, lt-leb, leb-true, leb-false}
 use Rattle.theory.specs.Buffers.{over, put, padded}
-use Rattle.words.proofs.Writes.{drop-over, take-over, over-append, over-over, over-same}
+use Rattle.step.proofs.Ruled.{next-on}
+use Rattle.words.proofs.Writes.{over-self, drop-over, take-over, over-append, over-over, over-same}
 use Rattle.theory.specs.Syntax.{pick}
 use Rattle.splice.specs.Right.{placed}
 use Rattle.std.specs.Prelude.{Option as Maybe, Some, None}
@@ -27,11 +28,12 @@ use Rattle.turns.specs.declared.buffers.Buffers.{Buffers}
 use Rattle.turns.specs.declared.run.Ran.{Ran}
 use Rattle.rules.specs.declared.finding.Fitting.{Fitting}
 use Rattle.place.specs.Noted.{OnPath}
+use Rattle.place.specs.declared.Trail.{Trail}
 use Rattle.in_place.specs.InPlace.{Leads, Passing}
 use Rattle.in_place.specs.declared.Passed.{Passed}
 use Rattle.step.specs.Next.{next_in, made, placed_next, OnNext}
 use Rattle.turns.specs.Buffers.{source, first_of, second_of, term_of, Lent}
-use Rattle.turns.specs.Run.{Rounded, Drove, stop_at, decided, Last, stop, go, run, run_from, ran_of}
+use Rattle.turns.specs.Run.{Rounded, Drove, Leaves, stop_at, decided, Last, stop, go, run, run_from, ran_of}
 
 -- ---- a run's first turn
 module _ (next : List ℕ → Option (List ℕ)) (room n : ℕ) (t : List ℕ) where
@@ -88,33 +90,31 @@ says-made room n none e = never (cc)
 says-made room n (some u) e = (u, (refl, made_of (leb (length u) room) (length u) room n refl e))
 
 -- ---- a round: steps in place and then a turn, and a turn alone
-module _ {ks : List ℕ} {next : List ℕ → Option (List ℕ)} {room size steps allowance : ℕ} {t o o' path : List ℕ} {made : Next} {follows : ControlFlow Stop ℕ} (h : steps ≤ allowance) where
-  pub rounded : {find : List ℕ → Maybe Fitting} {t' : List ℕ} {p : Passed} → Passing ks find next room (allowance - steps) size t t' path p
-      → OnNext ks (next (take size t')) path p.number → made ≡ next_in room (next (take size t')) → o' ≡ placed_next room (next (take size t')) o
+module _ {ks : List ℕ} {next : List ℕ → Option (List ℕ)} {room steps allowance : ℕ} {t o o' : List ℕ} {trail : Trail} {made : Next} {follows : ControlFlow Stop ℕ} (h : steps ≤ allowance) where
+  pub rounded : {find : List ℕ → Maybe Fitting} {t' : List ℕ} {p : Passed} → Passing ks find next room (allowance - steps) t t' trail p
+      → OnNext ks (next t') trail.places.now trail.last → made ≡ next_in room (next t') → o' ≡ placed_next room (next t') o
       → follows ≡ decided made (steps + p.steps) allowance
-      → Rounded ks next room size steps allowance t o t' o' path (record { next = follows; steps = steps + p.steps; number = p.number })
+      → Rounded ks next room steps allowance t o t' o' trail (record { next = follows; steps = steps + p.steps })
   rounded {find} {t'} {p} g on q e d =
       let m : p.steps ≡ steps + p.steps - steps = omega arith in
       record {
         more = omega arith;
         within = omega (arith, g.within);
-        leads = subst (λ (k : ℕ). Leads next room k (take size t) (take size t')) m g.leads;
-        rest = g.rest;
+        leads = subst (λ (k : ℕ). Leads next room k t t') m g.leads;
         other = e;
         move = d ∙ ap (λ (x : Next). decided x (steps + p.steps) allowance) q;
         on = on;
       }
 
-  pub rounded-by_turn : {number : ℕ} → OnNext ks (next (take size t)) path number → made ≡ next_in room (next (take size t)) → o' ≡ placed_next room (next (take size t)) o
+  pub rounded-by_turn : OnNext ks (next t) trail.places.now trail.last → made ≡ next_in room (next t) → o' ≡ placed_next room (next t) o
       → follows ≡ decided made steps allowance
-      → Rounded ks next room size steps allowance t o t o' path (record { next = follows; steps = steps; number = number })
-  rounded-by_turn {number} on q e d =
+      → Rounded ks next room steps allowance t o t o' trail (record { next = follows; steps = steps })
+  rounded-by_turn on q e d =
       let none : 0 ≡ steps - steps = omega arith in
       record {
         more = omega arith;
         within = h;
-        leads = subst (λ (k : ℕ). Leads next room k (take size t) (take size t)) none refl;
-        rest = refl;
+        leads = subst (λ (k : ℕ). Leads next room k t t) none refl;
         other = e;
         move = d ∙ ap (λ (x : Next). decided x steps allowance) q;
         on = on;
@@ -138,56 +138,53 @@ drop-further size room x y h e =
     ap (λ (k : ℕ). drop k x) (sym z) ∙ sym (drop-drop (room - size) size x) ∙ ap (drop (room - size)) e ∙ drop-drop (room - size) size y ∙ ap (λ (k : ℕ). drop k y) z
 
 -- ---- what a round makes of a run
-module _ {ks : List ℕ} {next : List ℕ → Option (List ℕ)} {room size steps allowance : ℕ} {t o t' o' path : List ℕ} {r : Outcome} (h : Rounded ks next room size steps allowance t o t' o' path r) where
-  abbrev here : List ℕ
-  here = take size t'
-
+module _ {ks : List ℕ} {next : List ℕ → Option (List ℕ)} {room steps allowance : ℕ} {t o t' o' : List ℕ} {trail : Trail} {r : Outcome} (h : Rounded ks next room steps allowance t o t' o' trail r) where
   abbrev answer : Next
-  answer = next_in room (next here)
+  answer = next_in room (next t')
 
   -- the steps in place are steps of the run: what is left to run after them
-  settles : run next room (allowance - steps) steps (take size t) ≡ run next room (allowance - r.steps) r.steps here
+  settles : run next room (allowance - steps) steps t ≡ run next room (allowance - r.steps) r.steps t'
   settles =
       let left : allowance - steps - (r.steps - steps) ≡ allowance - r.steps = omega (arith, h.more, h.within) in
       let made : steps + (r.steps - steps) ≡ r.steps = omega (arith, h.more) in
-      run-leads next room (r.steps - steps) (allowance - steps) steps (take size t) here h.leads (omega (arith, h.more, h.within)) ∙ ap₂ (λ (i j : ℕ). run next room i j here) left made
+      run-leads next room (r.steps - steps) (allowance - steps) steps t t' h.leads (omega (arith, h.more, h.within)) ∙ ap₂ (λ (i j : ℕ). run next room i j t') left made
 
   one_left : r.steps < allowance → allowance - r.steps ≡ suc (allowance - (r.steps + 1))
   one_left k = omega arith
 
   -- a round after which the run stops
   abbrev Stopped : Stop → Type 0
-  Stopped at = run next room (allowance - r.steps) r.steps here ≡ record { ending = at.ending; steps = at.steps; term = here }
+  Stopped at = run next room (allowance - r.steps) r.steps t' ≡ record { ending = at.ending; steps = at.steps; term = t' }
 
   stop-as : (e : Ending) (m : ℕ) (at : Stop) → stop_at e m ≡ Break at → Stopped (record { ending = e; steps = m }) → Stopped at
   stop-as e m at q k = let same : record { ending = e; steps = m } ≡ at = cc in subst Stopped same k
 
-  stops-out : (u : List ℕ) → next here ≡ some u → allowance ≤ r.steps → Stopped (record { ending = Out; steps = r.steps })
-  stops-out u e k = let none_left : allowance - r.steps ≡ 0 = omega arith in ap (λ (m : ℕ). run next room m r.steps here) none_left ∙ run_out next room r.steps here u e
+  stops-out : (u : List ℕ) → next t' ≡ some u → allowance ≤ r.steps → Stopped (record { ending = Out; steps = r.steps })
+  stops-out u e k = let none_left : allowance - r.steps ≡ 0 = omega arith in ap (λ (m : ℕ). run next room m r.steps t') none_left ∙ run_out next room r.steps t' u e
 
   stops-big : answer ≡ Over → r.steps < allowance → Stopped (record { ending = Big; steps = r.steps + 1 })
   stops-big q k =
-      let u = says-over room (next here) q in
-      ap (λ (m : ℕ). run next room m r.steps here) (one_left k) ∙ run-big next room r.steps here (allowance - (r.steps + 1)) u.0 u.1.0 u.1.1
+      let u = says-over room (next t') q in
+      ap (λ (m : ℕ). run next room m r.steps t') (one_left k) ∙ run-big next room r.steps t' (allowance - (r.steps + 1)) u.0 u.1.0 u.1.1
 
   stopped : (at : Stop) → decided answer r.steps allowance ≡ Break at → Stopped at
   unfolding decided
   stopped at q = by answer refl q
     where
       over : (b : Bool) → leb allowance r.steps ≡ b → answer ≡ Over → pick b (stop_at Out r.steps) (stop_at Big (r.steps + 1)) ≡ Break at → Stopped at
-      over true e a q = let u = says-over room (next here) a in stop-as Out r.steps at q (stops-out u.0 u.1.0 (leb-true allowance r.steps e))
+      over true e a q = let u = says-over room (next t') a in stop-as Out r.steps at q (stops-out u.0 u.1.0 (leb-true allowance r.steps e))
       over false e a q = stop-as Big (r.steps + 1) at q (stops-big a (leb-false allowance r.steps e))
 
       made_one : (m : ℕ) (b : Bool) → leb allowance r.steps ≡ b → answer ≡ Made m → pick b (stop_at Out r.steps) (Continue m) ≡ Break at → Stopped at
-      made_one m true e a q = let u = says-made room m (next here) a in stop-as Out r.steps at q (stops-out u.0 u.1.0 (leb-true allowance r.steps e))
+      made_one m true e a q = let u = says-made room m (next t') a in stop-as Out r.steps at q (stops-out u.0 u.1.0 (leb-true allowance r.steps e))
       made_one m false e a q = never (cc)
 
       by : (n : Next) → answer ≡ n → decided n r.steps allowance ≡ Break at → Stopped at
-      by Nothing a q = stop-as Done r.steps at q (run-done next room r.steps here (allowance - r.steps) (says_nothing room _ a))
+      by Nothing a q = stop-as Done r.steps at q (run-done next room r.steps t' (allowance - r.steps) (says_nothing room _ a))
       by Over a q = over (leb allowance r.steps) refl a q
       by (Made m) a q = made_one m (leb allowance r.steps) refl a q
 
-  round-stopped : (at : Stop) → r.next ≡ Break at → run next room (allowance - steps) steps (take size t) ≡ record { ending = at.ending; steps = at.steps; term = here }
+  round-stopped : (at : Stop) → r.next ≡ Break at → run next room (allowance - steps) steps t ≡ record { ending = at.ending; steps = at.steps; term = t' }
   round-stopped at q = settles ∙ stopped at (sym h.move ∙ q)
 
   -- a round after which it goes on
@@ -215,13 +212,13 @@ module _ {ks : List ℕ} {next : List ℕ → Option (List ℕ)} {room size step
   record Onward (n : ℕ) : Type 0 where
     left : r.steps < allowance
     fits : n ≤ room
-    rest : run next room (allowance - steps) steps (take size t) ≡ run next room (allowance - (r.steps + 1)) (r.steps + 1) (take n o')
-    on_path : OnPath ks (take n o') path r.number
+    rest : run next room (allowance - steps) steps t ≡ run next room (allowance - (r.steps + 1)) (r.steps + 1) (take n o')
+    on_path : OnPath ks (take n o') trail.places.now trail.last
 
   goes_on : room ≤ length o → (n : ℕ) → r.next ≡ Continue n → Onward n
   goes_on long n q =
       let m = more n (sym h.move ∙ q) in
-      let says = says-made room n (next here) m.made in
+      let says = says-made room n (next t') m.made in
       let u = says.0 in
       let short : length u ≤ room = omega arith in
       let made : take n o' ≡ u =
@@ -229,14 +226,14 @@ module _ {ks : List ℕ} {next : List ℕ → Option (List ℕ)} {room size step
       record {
         left = m.left;
         fits = says.1.1.1;
-        rest = settles ∙ ap (λ (k : ℕ). run next room k r.steps here) (one_left m.left) ∙ run_on next room r.steps here (allowance - (r.steps + 1)) u says.1.0 short
+        rest = settles ∙ ap (λ (k : ℕ). run next room k r.steps t') (one_left m.left) ∙ run_on next room r.steps t' (allowance - (r.steps + 1)) u says.1.0 short
             ∙ ap (run next room (allowance - (r.steps + 1)) (r.steps + 1)) (sym made);
-        on_path = subst (λ (x : List ℕ). OnPath ks x path r.number) (sym made) (subst (λ (x : Option (List ℕ)). OnNext ks x path r.number) says.1.0 h.on);
+        on_path = subst (λ (x : List ℕ). OnPath ks x trail.places.now trail.last) (sym made) (subst (λ (x : Option (List ℕ)). OnNext ks x trail.places.now trail.last) says.1.0 h.on);
       }
 
-  -- past the room both buffers are as they were
-  round-rests : size ≤ room → (drop room t' ≡ drop room t) × (drop room o' ≡ drop room o)
-  round-rests k = (drop-further size room t' t k h.rest, ap (drop room) h.other ∙ drop-placed room (next here) o)
+  -- past the room both buffers are as they were, x the whole one that begins with the term
+  round-rests : (size : ℕ) (x x' : List ℕ) → size ≤ room → drop size x' ≡ drop size x → (drop room x' ≡ drop room x) × (drop room o' ≡ drop room o)
+  round-rests size x x' k e = (drop-further size room x' x k e, ap (drop room) h.other ∙ drop-placed room (next t') o)
 
 -- ---- the rounds of a run in buffers, b₀ as they came, b before a round; the round leaves t' in the term's and o' in the other
 pub by_both : {A : Type 0} (P : A → A → Type 0) (flip : Bool) (x y x' y' : A) → P x' x → P y' y → P (source flip x' y') (source flip x y) × P (source flip y' x') (source flip y x)
@@ -254,25 +251,47 @@ pub record Going (next : List ℕ → Option (List ℕ)) (allowance : ℕ) (b₀
   pub first_rest : drop b₀.room (first_of b) ≡ drop b₀.room (first_of b₀)
   pub second_rest : drop b₀.room (second_of b) ≡ drop b₀.room (second_of b₀)
 
-module _ {ks : List ℕ} {next : List ℕ → Option (List ℕ)} {allowance steps : ℕ} {path t' o' : List ℕ} {r : Outcome} {b₀ b : Buffers} (g : Going next allowance b₀ b steps) (k : Lent b₀ b)
-    (h : Rounded ks next b.room b.size steps allowance b.term.now b.other.now t' o' path r) where
-  now : Rounded ks next b₀.room b.size steps allowance b.term.now b.other.now t' o' path r
-  now = subst (λ (room : ℕ). Rounded ks next room b.size steps allowance b.term.now b.other.now t' o' path r) k.room h
+-- what is behind the first words of a buffer t, of which there are so many, stays where those become u
+module _ (size : ℕ) (t u : List ℕ) (l : length u ≡ length (take size t)) (fits : size ≤ length t) where
+  count : length u ≡ size
+  count = l ∙ length-take-le size t fits
+
+  pub front : take size (u ++ drop size t) ≡ u
+  front = take_at u (drop size t) size count
+
+  pub behind : drop size (u ++ drop size t) ≡ drop size t
+  behind = drop_at u (drop size t) size count
+
+  pub same-length : length (u ++ drop size t) ≡ length t
+  same-length = length-append u (drop size t) ∙ simp length-drop (omega (arith, count))
+
+-- u is the term that the round leaves, at the front of the buffer that had it
+module _ {ks : List ℕ} {next : List ℕ → Option (List ℕ)} {allowance steps : ℕ} {u o' : List ℕ} {trail : Trail} {r : Outcome} {b₀ b : Buffers} (g : Going next allowance b₀ b steps) (k : Lent b₀ b)
+    (h : Rounded ks next b.room steps allowance (term_of b) b.other.now u o' trail r)
+    (l : length u ≡ length (term_of b)) where
+  abbrev t' : List ℕ
+  t' = u ++ drop b.size b.term.now
+
+  within : b.size ≤ length b.term.now
+  within = omega (arith, b.size_le_room, b.room_le_term)
+
+  now : Rounded ks next b₀.room steps allowance (term_of b) b.other.now u o' trail r
+  now = subst (λ (room : ℕ). Rounded ks next room steps allowance (term_of b) b.other.now u o' trail r) k.room h
 
   pub rests : (drop b₀.room (source b.flip t' o') ≡ drop b₀.room (first_of b₀)) × (drop b₀.room (source b.flip o' t') ≡ drop b₀.room (second_of b₀))
   rests =
-      let of = round-rests now (omega (arith, b.size_le_room, k.room)) in
+      let of = round-rests now b.size b.term.now t' (omega (arith, b.size_le_room, k.room)) (behind b.size b.term.now u l within) in
       let both = by_both (λ (x y : List ℕ). drop b₀.room x ≡ drop b₀.room y) b.flip b.term.now b.other.now t' o' of.0 of.1 in
       (both.0 ∙ g.first_rest, both.1 ∙ g.second_rest)
 
   pub drove : (at : Stop) → r.next ≡ Break at → (b' : Buffers) → b'.term.now ≡ t' → b'.other.now ≡ o' → b'.flip ≡ b.flip → b'.size ≡ b.size
       → Drove (run next b₀.room allowance 0 (term_of b₀)) at b₀ b'
   drove at q b' et eo ef es =
-      let l : run next b₀.room allowance 0 (term_of b₀) ≡ record { ending = at.ending; steps = at.steps; term = take b.size t' } = g.rest ∙ round-stopped now at q in
-      let term : term_of b' ≡ (run next b₀.room allowance 0 (term_of b₀)).term = ap₂ (λ (n : ℕ) (x : List ℕ). take n x) es et ∙ sym (ap (λ (x : Last). x.term) l) in
+      let ran : run next b₀.room allowance 0 (term_of b₀) ≡ record { ending = at.ending; steps = at.steps; term = u } = g.rest ∙ round-stopped now at q in
+      let term : term_of b' ≡ (run next b₀.room allowance 0 (term_of b₀)).term = ap₂ (λ (n : ℕ) (x : List ℕ). take n x) es et ∙ front b.size b.term.now u l within ∙ sym (ap (λ (x : Last). x.term) ran) in
       record {
-        ending = sym (ap (λ (x : Last). x.ending) l);
-        steps = sym (ap (λ (x : Last). x.steps) l);
+        ending = sym (ap (λ (x : Last). x.ending) ran);
+        steps = sym (ap (λ (x : Last). x.steps) ran);
         len = sym (length-take-le b'.size b'.term.now (omega (arith, b'.size_le_room, b'.room_le_term))) ∙ ap length term;
         term = term;
         first_rest = ap (drop b₀.room) (ap₂ (source b'.flip) et eo ∙ ap (λ (f : Bool). source f t' o') ef) ∙ rests.0;
@@ -283,7 +302,7 @@ module _ {ks : List ℕ} {next : List ℕ → Option (List ℕ)} {allowance step
     pub left : r.steps < allowance
     pub fits : n ≤ b.room
     pub rest : run next b₀.room allowance 0 (term_of b₀) ≡ run next b₀.room (allowance - (r.steps + 1)) (r.steps + 1) (take n o')
-    pub on_path : OnPath ks (take n o') path r.number
+    pub on_path : OnPath ks (take n o') trail.places.now trail.last
 
   pub onward : (n : ℕ) → r.next ≡ Continue n → Onwards n
   onward n q =
@@ -315,9 +334,9 @@ module _ {ks : List ℕ} {next : List ℕ → Option (List ℕ)} {allowance step
       second_rest = ap (drop b₀.room) second-is ∙ rests.1;
     }
 
-    pub lent_on : length t' ≡ length b.term.now → length o' ≡ length b.other.now → b'.room ≡ b.room → Lent b₀ b'
-    lent_on lt lo er =
-        let lengths = by_both (λ (x y : List ℕ). length x ≡ length y) b.flip b.term.now b.other.now t' o' lt lo in
+    pub lent_on : length o' ≡ length b.other.now → b'.room ≡ b.room → Lent b₀ b'
+    lent_on lo er =
+        let lengths = by_both (λ (x y : List ℕ). length x ≡ length y) b.flip b.term.now b.other.now t' o' (same-length b.size b.term.now u l within) lo in
         record {
           first = ap₂ (source b'.flip) nt no ∙ ap (λ (f : Bool). source f b.other.ghost_name b.term.ghost_name) ef ∙ changed_over b.flip b.term.ghost_name b.other.ghost_name ∙ k.first;
           second = ap₂ (source b'.flip) no nt ∙ ap (λ (f : Bool). source f b.term.ghost_name b.other.ghost_name) ef ∙ changed_over b.flip b.other.ghost_name b.term.ghost_name ∙ k.second;
@@ -326,8 +345,8 @@ module _ {ks : List ℕ} {next : List ℕ → Option (List ℕ)} {allowance step
           room = er ∙ k.room;
         }
 
-    pub path_on : OnPath ks (term_of b') path r.number
-    path_on = subst (λ (x : List ℕ). OnPath ks x path r.number) (sym term-is) on.on_path
+    pub path_on : OnPath ks (term_of b') trail.places.now trail.last
+    path_on = subst (λ (x : List ℕ). OnPath ks x trail.places.now trail.last) (sym term-is) on.on_path
 
 -- ---- the buffers set in order
 pub padded-over : (room size : ℕ) (t f f' f'' : List ℕ) → length t ≡ size → f' ≡ over t f → f'' ≡ put size (replicate (room - size) 0) f' → f'' ≡ over (padded room t) f
@@ -349,34 +368,41 @@ module _ {l : Last} {at : Stop} {b b' : Buffers} (d : Drove l at b b') (k : Lent
   long : length (padded b.room l.term) ≡ b.room
   long = length-padded b.room l.term (omega (arith, b'.size_le_room))
 
-  pub settled-first : over (padded b'.room (term_of b')) (first_of b') ≡ over (padded b.room l.term) (first_of b)
+  settled-first : over (padded b'.room (term_of b')) (first_of b') ≡ over (padded b.room l.term) (first_of b)
   settled-first =
       ap₂ (λ (n : ℕ) (t : List ℕ). over (padded n t) (first_of b')) k.room d.term
       ∙ over-same (padded b.room l.term) (first_of b') (first_of b) k.first_length (ap (λ (n : ℕ). drop n (first_of b')) long ∙ d.first_rest ∙ sym (ap (λ (n : ℕ). drop n (first_of b)) long))
 
-  pub settled-second : over (replicate b'.room 0) (second_of b') ≡ over (replicate b.room 0) (second_of b)
+  settled-second : over (replicate b'.room 0) (second_of b') ≡ over (replicate b.room 0) (second_of b)
   settled-second = ap (λ (n : ℕ). over (replicate n 0) (second_of b')) k.room ∙ zeros-same b.room (second_of b') (second_of b) k.second_length d.second_rest
 
-  pub settled-answer : ◌≡◌ {A = Ran} (record { ending = at.ending; steps = at.steps; len = b'.size }) (ran_of l)
+  settled-answer : ◌≡◌ {A = Ran} (record { ending = at.ending; steps = at.steps; len = b'.size }) (ran_of l)
   settled-answer = cc (d.ending, d.steps, d.len)
+
+  pub settled : (f s : List ℕ) → f ≡ over (padded b'.room (term_of b')) (first_of b') → s ≡ over (replicate b'.room 0) (second_of b')
+      → Leaves ran_of l b.room (record { ending = at.ending; steps = at.steps; len = b'.size }) (first_of b) f (second_of b) s
+  settled f s p q = record { value = settled-answer; first_after = p ∙ settled-first; second_after = q ∙ settled-second }
 
 -- ---- the start of a run
 module _ (next : List ℕ → Option (List ℕ)) (room allowance : ℕ) (t : List ℕ) where
-  pub start-big : room < length t → run_from next room allowance t ≡ record { ending = Big; steps = 0; term = [] }
-  start-big h = ap (λ (b : Bool). pick b (run next room allowance 0 t) (record { ending = Big; steps = 0; term = [] })) (lt-leb (length t) room h)
-
-  pub start_fits : length t ≤ room → run_from next room allowance t ≡ run next room allowance 0 t
+  start_fits : length t ≤ room → run_from next room allowance t ≡ run next room allowance 0 t
   start_fits h = ap (λ (b : Bool). pick b (run next room allowance 0 t) (record { ending = Big; steps = 0; term = [] })) (le-leb (length t) room h)
 
-  pub started : (f x f' : List ℕ) (r : Ran) → length t ≤ room → room ≤ length f → x ≡ over t f
-      → r ≡ ran_of (run next room allowance 0 (take (length t) x)) → f' ≡ over (padded room (run next room allowance 0 (take (length t) x)).term) x
-      → (r ≡ ran_of (run_from next room allowance t)) × (f' ≡ over (padded room (run_from next room allowance t).term) f)
-  started f x f' r h k e p q =
+  pub started : (f x f' s s' : List ℕ) (r : Ran) → length t ≤ room → room ≤ length f → x ≡ over t f
+      → Leaves ran_of (run next room allowance 0 (take (length t) x)) room r x f' s s' → Leaves ran_of (run_from next room allowance t) room r f f' s s'
+  started f x f' s s' r h k e ran =
       let same : run next room allowance 0 (take (length t) x) ≡ run_from next room allowance t =
-      ap (λ (l : List ℕ). run next room allowance 0 (take (length t) l)) e ∙ ap (run next room allowance 0) (take-over t f (omega arith)) ∙ sym (start_fits h) in (
-        p ∙ ap ran_of same,
-        q
+      ap (λ (l : List ℕ). run next room allowance 0 (take (length t) l)) e ∙ ap (run next room allowance 0) (take-over t f (omega arith)) ∙ sym (start_fits h) in
+      record {
+        value = ran.value ∙ ap ran_of same;
+        first_after = ran.first_after
             ∙ ap (λ (l : Last). over (padded room l.term) x) same
             ∙ ap (over (padded room (run_from next room allowance t).term)) e
-            ∙ over-over (padded room (run_from next room allowance t).term) t f (rw (length-append, length-replicate) (omega arith)),
-      )
+            ∙ over-over (padded room (run_from next room allowance t).term) t f (rw (length-append, length-replicate) (omega arith));
+        second_after = ran.second_after;
+      }
+
+-- the laws by which the check finds the code's steps: of a round, and of the buffers brought back
+pub ruleset round_laws = (next-on, rounded, rounded-by_turn)
+
+pub ruleset back_laws = (over-self)

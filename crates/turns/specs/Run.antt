@@ -1,10 +1,12 @@
 -- Runs of a step, any function `next` from a term to the next one, if there is one, within a room; and what two buffers that take
 -- turns hold.
-use Rattle.std.specs.Prelude.{ℕ, zero, suc, ◌+◌, ◌-◌, ◌≤◌, ◌≡◌, List, [], length, take, drop, leb}
+use Rattle.std.specs.Prelude.{ℕ, zero, suc, ◌+◌, ◌-◌, ◌≤◌, ◌≡◌, List, [], length, drop, replicate, leb}
 use Rattle.std.proofs.Math.Option.{Option, none, some}
 use Rattle.theory.specs.Syntax.{pick}
+use Rattle.theory.specs.Buffers.{over, padded}
 use Rattle.std.specs.declared.ops.ControlFlow.{ControlFlow}
 use Rattle.std.specs.declared.ops.ControlFlow.TheVariants.{Continue, Break}
+use Rattle.place.specs.declared.Trail.{Trail}
 use Rattle.step.specs.declared.Next.{Next}
 use Rattle.step.specs.declared.Next.TheVariants.{Made, Over, Nothing}
 use Rattle.turns.specs.declared.round.Stop.{Stop}
@@ -26,16 +28,15 @@ decided Nothing steps allowance = stop_at Done steps
 decided Over steps allowance = pick (leb allowance steps) (stop_at Out steps) (stop_at Big (steps + 1))
 decided (Made n) steps allowance = pick (leb allowance steps) (stop_at Out steps) (Continue n)
 
--- a round: steps in place lead to the term that its buffer t holds then, and the turn makes the next one from it in the other buffer o; the
--- path is noted up to the place of the turn
-pub record Rounded (ks : List ℕ) (next : List ℕ → Option (List ℕ)) (room size steps allowance : ℕ) (t o t' o' path : List ℕ) (r : Outcome) : Type 0 where
+-- a round: steps in place lead from the term t to t', and the turn makes the next one from it in the other buffer o; the trail is noted up to
+-- the place of the turn
+pub record Rounded (ks : List ℕ) (next : List ℕ → Option (List ℕ)) (room steps allowance : ℕ) (t o t' o' : List ℕ) (trail : Trail) (r : Outcome) : Type 0 where
   pub more : steps ≤ r.steps
   pub within : r.steps ≤ allowance
-  pub leads : Leads next room (r.steps - steps) (take size t) (take size t')
-  pub rest : drop size t' ≡ drop size t
-  pub other : o' ≡ placed_next room (next (take size t')) o
-  pub move : r.next ≡ decided (next_in room (next (take size t'))) r.steps allowance
-  pub on : OnNext ks (next (take size t')) path r.number
+  pub leads : Leads next room (r.steps - steps) t t'
+  pub other : o' ≡ placed_next room (next t') o
+  pub move : r.next ≡ decided (next_in room (next t')) r.steps allowance
+  pub on : OnNext ks (next t') trail.places.now trail.last
 
 -- how a run ends, after how many steps, and its last term
 pub record Last : Type 0 where
@@ -65,6 +66,13 @@ run_from next room allowance t = pick (leb (length t) room) (run next room allow
 -- the answer of a run
 abbrev pub ran_of : Last → Ran
 ran_of l = record { ending = l.ending; steps = l.steps; len = length l.term }
+
+-- what a run in two buffers leaves: the answer, which is said of it; its last term in the first, then zeros up to the room; zeros up to the
+-- room in the second
+pub record Leaves {A : Type 0} (said : Last → A) (l : Last) (room : ℕ) (answer : A) (first first' second second' : List ℕ) : Type 0 where
+  pub value : answer ≡ said l
+  pub first_after : first' ≡ over (padded room l.term) first
+  pub second_after : second' ≡ over (replicate room 0) second
 
 -- a run's turns, before the buffers are set in order
 pub record Drove (l : Last) (at : Stop) (b b' : Buffers) : Type 0 where

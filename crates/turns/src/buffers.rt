@@ -1,9 +1,10 @@
 // Two lent buffers that take turns: the term lives in the one, and the next one is made in the other.
-ghost use Rattle.std.specs.Prelude.{◌≡◌, ◌≤◌, length, take, replicate};
+ghost use Rattle.std.specs.Prelude.{◌≡◌, ◌≤◌, length, replicate};
 ghost use Rattle.theory.specs.Buffers.{over};
 
 use crate::round::{Round, Stop};
 use crate::run::Ran;
+use place::Trail;
 use rules::lists::Lists;
 use rules::search::Search;
 use std::mem;
@@ -25,14 +26,14 @@ pub(crate) struct Buffers<'b> {
     ghost room_small: { room ≤ 4096 },
 }
 
-// Carries the first `size` words over, and leaves zeros.
-fn carry(from: &mut [u16], to: &mut [u16], size: usize)
-    requires { (size ≤ length from.old) × (size ≤ length to.old) }
-    ensures to_after { to.new ≡ over (take size from.old) to.old }
-    ensures from_after { from.new ≡ over (replicate size 0) from.old }
+// Carries the words over to the front of the other buffer, and leaves zeros.
+fn carry(from: &mut [u16], to: &mut [u16])
+    requires { length from.old ≤ length to.old }
+    ensures to_after { to.new ≡ over from.old to.old }
+    ensures from_after { from.new ≡ replicate (length from.old) 0 }
 {
-    copy_into(to, &from[..size]);
-    zero_from(from, 0, size);
+    copy_into(to, from);
+    from.fill(0);
 }
 
 impl<'b> Buffers<'b> {
@@ -40,7 +41,7 @@ impl<'b> Buffers<'b> {
     ghost use Rattle.theory.specs.Buffers.{over, padded};
     ghost use Rattle.step.specs.Next.{next_by};
     ghost use Rattle.turns.specs.Buffers.{source, first_of, second_of, term_of, Lent};
-    ghost use Rattle.turns.specs.Run.{Drove, ran_of, run};
+    ghost use Rattle.turns.specs.Run.{Drove, ran_of, run, Leaves};
 
     // The buffers change over: the term has so many words, in what was the other one.
     fn change_over(&mut self, size: usize)
@@ -55,21 +56,25 @@ impl<'b> Buffers<'b> {
         self.size = size;
     }
 
-    // The rounds of a run, and where it stops. The path to the place that was rewritten last is noted, from the root on.
-    fn drive<R: Round>(&mut self, search: Search, allowance: usize, path: &mut [usize]) -> Stop
-        requires path_long { self.old.room < length path.old }
-        requires path_value { get_or path.old 0 0 ≡ 0 }
+    // The rounds of a run, and where it stops. The trail leads to the place that was rewritten last, from the root on.
+    fn drive<R: Round>(&mut self, search: Search, allowance: usize, trail: &mut Trail) -> Stop
+        requires trail_long { self.old.room < length trail.old.places.now }
+        requires at_root { (trail.old.last ≡ 0) × (get_or trail.old.places.now 0 0 ≡ 0) }
         requires allowance_bound { allowance ≤ 1000000 }
         ensures drove { Drove (run (next_by search.entry.lists) self.old.room allowance 0 (term_of self.old)) result self.old self.new }
         ensures lent { Lent self.old self.new }
     {
         let mut steps = 0;
-        let mut last = 0;
         loop {
             let done = R::round(
-                search, self.term, self.other, self.size, self.room, steps, allowance, path, last,
+                search,
+                &mut self.term[..self.size],
+                self.other,
+                self.room,
+                steps,
+                allowance,
+                trail,
             );
-            last = done.number;
             match done.next {
                 ControlFlow::Break(stop) => return stop,
                 ControlFlow::Continue(n) => {
@@ -81,6 +86,7 @@ impl<'b> Buffers<'b> {
     }
 
     // Brings the term to the buffer that came first.
+    #[tactic(auto, using(crate::proofs::Runs::back_laws))]
     fn bring_back(&mut self)
         ensures flip_value { self.new.flip ≡ false }
         ensures first_after { self.new.term.now ≡ over (term_of self.old) (first_of self.old) }
@@ -89,7 +95,7 @@ impl<'b> Buffers<'b> {
         ensures lent { Lent self.old self.new }
     {
         if self.flip {
-            carry(self.term, self.other, self.size);
+            carry(&mut self.term[..self.size], self.other);
             self.change_over(self.size);
         }
     }
@@ -110,14 +116,16 @@ impl<'b> Buffers<'b> {
     // zeros up to the room.
     pub(crate) fn run<R: Round>(&mut self, lists: Lists, allowance: usize) -> Ran
         requires allowance_bound { allowance ≤ 1000000 }
-        ensures value { result ≡ ran_of (run (next_by lists.entry) self.old.room allowance 0 (term_of self.old)) }
-        ensures first_after { self.new.term.now ≡ over (padded self.old.room (run (next_by lists.entry) self.old.room allowance 0 (term_of self.old)).term) (first_of self.old) }
-        ensures second_after { self.new.other.now ≡ over (replicate self.old.room 0) (second_of self.old) }
+        ensures leaves { Leaves ran_of (run (next_by lists.entry) self.old.room allowance 0 (term_of self.old)) self.old.room result (first_of self.old) self.new.term.now (second_of self.old) self.new.other.now }
         ensures lent { (self.new.term.ghost_name ≡ source self.old.flip self.old.term.ghost_name self.old.other.ghost_name) × (self.new.other.ghost_name ≡ source self.old.flip self.old.other.ghost_name self.old.term.ghost_name) }
     {
         let search = Search::over(lists);
-        let mut path = [0usize; 4097];
-        let stop = self.drive::<R>(search, allowance, &mut path);
+        let mut places = [0usize; 4097];
+        let mut trail = Trail {
+            places: &mut places,
+            last: 0,
+        };
+        let stop = self.drive::<R>(search, allowance, &mut trail);
         let len = self.size;
         self.tidy();
         Ran {

@@ -1,43 +1,41 @@
 // The run in which every step goes from the buffer that holds the term into the other, and none is made in place: each turn finds the
 // site in the one buffer, writes the next term into the other, and decides what follows.
-ghost use Rattle.std.specs.Prelude.{◌≡◌, ◌≤◌, length, replicate};
-ghost use Rattle.theory.specs.Buffers.{over, padded};
+ghost use Rattle.std.specs.Prelude.{◌≤◌, length};
 ghost use Rattle.step.specs.Next.{next_by};
-ghost use Rattle.turns.specs.Run.{ran_of, run_from};
+ghost use Rattle.turns.specs.Run.{ran_of, run_from, Leaves};
 
 use crate::round::{Outcome, Round, decide};
 use crate::run::{Ran, start_by};
-use place::site_on;
+use place::Trail;
 use rules::lists::Lists;
 use rules::search::Search;
+use splice::term::Term;
 use step::next_into;
 
 // A round of one turn, and no step in place.
 pub struct EachStep;
 
 impl Round for EachStep {
+    #[tactic(auto, using(crate::proofs::Runs::round_laws))]
     fn round(
         search: Search,
         term: &mut [u16],
         other: &mut [u16],
-        size: usize,
         room: usize,
         steps: usize,
         allowance: usize,
-        path: &mut [usize],
-        last: usize,
+        trail: &mut Trail,
     ) -> Outcome {
-        let found = site_on(search, &term[..size], path, last);
-        let made = next_into(search.lists, found.site, &term[..size], other, room);
+        let site = trail.site_on(search, term);
+        let made = next_into(search.lists, site, Term { words: term, room }, other);
         Outcome {
             next: decide(made, steps, allowance),
             steps,
-            number: found.number,
         }
     }
 }
 
-// The run from a term that is handed over, in two lent buffers of at least the room: what `start` answers and leaves in them.
+// The run from a term that is handed over, in two lent buffers of at least the room: what `start_by::<InPlace>` answers and leaves in them.
 pub fn start_each(
     lists: Lists,
     term: &[u16],
@@ -48,9 +46,7 @@ pub fn start_each(
 ) -> Ran
     requires room_in_bounds { (room ≤ length first.old) × ((room ≤ length second.old) × (room ≤ 4096)) }
     requires allowance_bound { allowance ≤ 1000000 }
-    ensures value { result ≡ ran_of (run_from (next_by lists.entry) room allowance term.now) }
-    ensures first_after { first.new ≡ over (padded room (run_from (next_by lists.entry) room allowance term.now).term) first.old }
-    ensures second_after { second.new ≡ over (replicate room 0) second.old }
+    ensures { Leaves ran_of (run_from (next_by lists.entry) room allowance term.now) room result first.old first.new second.old second.new }
 {
     start_by::<EachStep>(lists, term, first, second, allowance, room)
 }

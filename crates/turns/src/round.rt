@@ -1,11 +1,12 @@
 // A round of a run: from the buffer that holds the term, the next term is made in the other, and what follows is decided. There is more
 // than one way to make a round; a run takes any of them.
-ghost use Rattle.std.specs.Prelude.{◌≡◌, ◌≤◌, ◌<◌, length, take};
+ghost use Rattle.std.specs.Prelude.{◌≡◌, ◌≤◌, ◌<◌, length};
 ghost use Rattle.place.specs.Noted.{OnPath};
 ghost use Rattle.step.specs.Next.{next_by};
 ghost use Rattle.turns.specs.Run.{Rounded, decided};
 
 use crate::run::Ending;
+use place::Trail;
 use rules::search::Search;
 use std::ops::ControlFlow;
 use step::Next;
@@ -17,34 +18,32 @@ pub struct Stop {
     pub steps: usize,
 }
 
-// What a round comes to: the run stops, or it goes on with a term of so many words; the steps made up to the round's turn, and the number
-// on the path of the place that the turn rewrites.
+// What a round comes to: the run stops, or it goes on with a term of so many words; and the steps made up to the
+// round's turn.
 #[derive(Clone, Copy)]
 pub struct Outcome {
     pub next: ControlFlow<Stop, usize>,
     pub steps: usize,
-    pub number: usize,
 }
 
 // A way to make a round.
 pub trait Round {
-    // A round from the term, the first `size` words of its buffer, with so many steps made before. The path to the place that was rewritten
-    // last is noted, up to its place number `last`.
+    // A round from the term, with so many steps made before: it is changed where it stands, and the next one made in the other buffer. The
+    // trail leads to the place that was rewritten last, and then to the one that the turn rewrites.
     fn round(
         search: Search,
         term: &mut [u16],
         other: &mut [u16],
-        size: usize,
         room: usize,
         steps: usize,
         allowance: usize,
-        path: &mut [usize],
-        last: usize,
+        trail: &mut Trail,
     ) -> Outcome
-        requires size_le_room { (size ≤ room) × ((room ≤ length term.old) × ((room ≤ length other.old) × ((room ≤ 65536) × (room < length path.old)))) }
-        requires on_path { OnPath search.lists.arities.now (take size term.old) path.old last }
+        requires term_len_bound { (length term.old ≤ room) × ((room ≤ length other.old) × ((room ≤ 65536) × (room < length trail.old.places.now))) }
+        requires on_path { OnPath search.lists.arities.now term.old trail.old.places.now trail.old.last }
         requires steps_le_allowance { (steps ≤ allowance) × (allowance ≤ 1000000) }
-        ensures { Rounded search.entry.lists.arities.now (next_by search.entry.lists) room size steps allowance term.old other.old term.new other.new path.new result };
+        ensures rounded { Rounded search.entry.lists.arities.now (next_by search.entry.lists) room steps allowance term.old other.old term.new other.new trail.new result }
+        ensures kept { length trail.new.places.now ≡ length trail.old.places.now };
 }
 
 // What follows a turn after so many steps: where nothing fits, the run is done; else where the steps are used up, it is out of them;

@@ -1,14 +1,15 @@
-// The run in two lent buffers that take turns. It takes any way to make its rounds; `start` makes steps in place as long as it can.
-ghost use Rattle.std.specs.Prelude.{◌≡◌, ◌≤◌, length, take, replicate};
-ghost use Rattle.theory.specs.Buffers.{over, padded};
+// The run in two lent buffers that take turns. It takes any way to make its rounds; `InPlace` makes steps in place as long as it can.
+ghost use Rattle.std.specs.Prelude.{◌≤◌, length, take};
 ghost use Rattle.step.specs.Next.{next_by};
-ghost use Rattle.turns.specs.Run.{ran_of, run, run_from};
+ghost use Rattle.turns.specs.Run.{ran_of, run, run_from, Leaves};
 
 use crate::buffers::Buffers;
 use crate::round::{Outcome, Round, decide};
 use in_place::pass;
+use place::Trail;
 use rules::lists::Lists;
 use rules::search::Search;
+use splice::term::Term;
 use step::next_into;
 use words::slices::{copy_into, zero_from};
 
@@ -35,24 +36,22 @@ pub struct Ran {
 pub struct InPlace;
 
 impl Round for InPlace {
+    #[tactic(auto, using(crate::proofs::Runs::round_laws))]
     fn round(
         search: Search,
         term: &mut [u16],
         other: &mut [u16],
-        size: usize,
         room: usize,
         steps: usize,
         allowance: usize,
-        path: &mut [usize],
-        last: usize,
+        trail: &mut Trail,
     ) -> Outcome {
-        let passed = pass(search, term, size, room, allowance - steps, path, last);
+        let passed = pass(search, term, room, allowance - steps, trail);
         let done = steps + passed.steps;
-        let made = next_into(search.lists, passed.site, &term[..size], other, room);
+        let made = next_into(search.lists, passed.site, Term { words: term, room }, other);
         Outcome {
             next: decide(made, done, allowance),
             steps: done,
-            number: passed.number,
         }
     }
 }
@@ -69,9 +68,7 @@ pub fn run_in<R: Round>(
 ) -> Ran
     requires len_le_room { (len ≤ room) × ((room ≤ length first.old) × ((room ≤ length second.old) × (room ≤ 4096))) }
     requires allowance_bound { allowance ≤ 1000000 }
-    ensures value { result ≡ ran_of (run (next_by lists.entry) room allowance 0 (take len first.old)) }
-    ensures first_after { first.new ≡ over (padded room (run (next_by lists.entry) room allowance 0 (take len first.old)).term) first.old }
-    ensures second_after { second.new ≡ over (replicate room 0) second.old }
+    ensures { Leaves ran_of (run (next_by lists.entry) room allowance 0 (take len first.old)) room result first.old first.new second.old second.new }
 {
     let mut buffers = Buffers {
         term: first,
@@ -94,9 +91,7 @@ pub fn start_by<R: Round>(
 ) -> Ran
     requires room_in_bounds { (room ≤ length first.old) × ((room ≤ length second.old) × (room ≤ 4096)) }
     requires allowance_bound { allowance ≤ 1000000 }
-    ensures value { result ≡ ran_of (run_from (next_by lists.entry) room allowance term.now) }
-    ensures first_after { first.new ≡ over (padded room (run_from (next_by lists.entry) room allowance term.now).term) first.old }
-    ensures second_after { second.new ≡ over (replicate room 0) second.old }
+    ensures { Leaves ran_of (run_from (next_by lists.entry) room allowance term.now) room result first.old first.new second.old second.new }
 {
     let len = term.len();
     if room < len {
@@ -110,22 +105,4 @@ pub fn start_by<R: Round>(
     }
     copy_into(first, term);
     run_in::<R>(lists, first, second, len, allowance, room)
-}
-
-// A run from a term that is handed over, in two lent buffers of at least the room.
-pub fn start(
-    lists: Lists,
-    term: &[u16],
-    first: &mut [u16],
-    second: &mut [u16],
-    allowance: usize,
-    room: usize,
-) -> Ran
-    requires room_in_bounds { (room ≤ length first.old) × ((room ≤ length second.old) × (room ≤ 4096)) }
-    requires allowance_bound { allowance ≤ 1000000 }
-    ensures value { result ≡ ran_of (run_from (next_by lists.entry) room allowance term.now) }
-    ensures first_after { first.new ≡ over (padded room (run_from (next_by lists.entry) room allowance term.now).term) first.old }
-    ensures second_after { second.new ≡ over (replicate room 0) second.old }
-{
-    start_by::<InPlace>(lists, term, first, second, allowance, room)
 }

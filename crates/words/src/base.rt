@@ -4,11 +4,12 @@ ghost use Rattle.words.specs.Base.{base_of, word_of};
 
 use std::fmt;
 
+// The constants; each has its word for its number.
 #[derive(Clone, Copy, PartialEq, Eq)]
 pub enum Base {
-    Zero,
-    True,
-    False,
+    Zero = 1,
+    True = 3,
+    False = 4,
 }
 
 impl Base {
@@ -23,16 +24,16 @@ impl Base {
             _ => None,
         }
     }
+}
 
-    // Its word.
-    pub fn word(self) -> u16
-        ensures { result ≡ word_of self }
+// Its word.
+impl From<Base> for u16 {
+    ghost from_gives = { λ base w. w ≡ word_of base };
+
+    fn from(base: Base) -> u16
+        ensures { result ≡ word_of base }
     {
-        match self {
-            Base::Zero => 1,
-            Base::True => 3,
-            Base::False => 4,
-        }
+        base as u16
     }
 }
 

@@ -2,5 +2,7 @@
 #![tactic(auto)]
 
 pub mod base;
+pub mod shown;
 pub mod slices;
+pub mod symbols;
 pub mod terms;

@@ -1,6 +1,13 @@
-// Words copied and put in place. What a slice holds afterwards is said for every word of it.
-ghost use Rattle.std.specs.Prelude.{◌≡◌, ◌+◌, ◌-◌, ◌≤◌, length, replicate};
+// Words read, copied and put in place. What a slice holds afterwards is said for every word of it.
+ghost use Rattle.std.specs.Prelude.{◌≡◌, ◌+◌, ◌-◌, ◌≤◌, length, replicate, get_or};
 ghost use Rattle.theory.specs.Buffers.{over, put};
+
+// What stands at a place; past the end, what is given for none.
+pub fn get_or<T: Copy>(items: &[T], at: usize, none: T) -> T
+    ensures { result ≡ get_or items.now at none }
+{
+    items.get(at).copied().unwrap_or(none)
+}
 
 // dst begins with src; the rest of dst is unchanged.
 pub fn copy_into(dst: &mut [u16], src: &[u16])

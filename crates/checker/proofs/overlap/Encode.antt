@@ -1,11 +1,11 @@
 -- Overlap on the bytes of left sides is the theory's `overlaps` of the patterns.
-use Prim.Native.Nat.{ℕ, zero, suc, ◌+◌}
-use mathlib.Core.Path.{◌≡◌, refl, sym, ap, ◌∙◌}
+use Prim.Native.Nat.{ℕ, zero, suc}
+use mathlib.Core.Path.{◌≡◌, refl, ap, ◌∙◌}
 use mathlib.Core.Bool.{Bool, true, false, ◌&&◌}
 use mathlib.Core.List.{List, [], ◌∷◌, ◌++◌, append_assoc}
 use native.Mathlib.Omega.{arith}
 use lib.ListN.{length, drop}
-use lib.Seq.{drop-drop, drop-append_seam}
+use lib.Seq.{drop-append_seam}
 use Rattle.theory.specs.Syntax.{zero_b, true_b, false_b, Pat, pbase, psucc, pvar, choose}
 use Rattle.theory.specs.Overlap.{overlap, overlaps}
 use Rattle.checker.specs.Overlap.{pat_len, heads_meet, args_meet}
@@ -50,24 +50,21 @@ both true c d e = e
 both false c d e = refl
 
 -- past the first pattern stand the others
-past_first : (ws : List ℕ) (i : ℕ) (p : Pat) (ps : List Pat) (xs : List ℕ) → drop i ws ≡ encode_pats (p ∷ ps) ++ xs → drop (i + pat_len (drop i ws)) ws ≡ encode_pats ps ++ xs
-past_first ws i p ps xs e =
-    let a : drop i ws ≡ encode_pat p ++ (encode_pats ps ++ xs) = e ∙ append_assoc (encode_pat p) (encode_pats ps) xs in
-    let l : pat_len (drop i ws) ≡ length (encode_pat p) = ap pat_len a ∙ pat-long p (encode_pats ps ++ xs) in
-    ap (λ n. drop (i + n) ws) l ∙ sym (drop-drop (length (encode_pat p)) i ws) ∙ ap (drop (length (encode_pat p))) a ∙ drop-append_seam (encode_pat p) (encode_pats ps ++ xs)
+past_first : (p : Pat) (ps : List Pat) (xs : List ℕ) → drop (pat_len (encode_pats (p ∷ ps) ++ xs)) (encode_pats (p ∷ ps) ++ xs) ≡ encode_pats ps ++ xs
+past_first p ps xs = rw (append_assoc (encode_pat p) (encode_pats ps) xs, pat-long p (encode_pats ps ++ xs)) (drop-append_seam (encode_pat p) (encode_pats ps ++ xs))
 
-pub args_are : (ws : List ℕ) (ps qs : List Pat) (n i j : ℕ) (xs ys : List ℕ) → length ps ≡ n → length qs ≡ n → drop i ws ≡ encode_pats ps ++ xs → drop j ws ≡ encode_pats qs ++ ys → args_meet ws n i j ≡ overlaps ps qs
+pub args_are : (ps qs : List Pat) (n : ℕ) (xs ys : List ℕ) → length ps ≡ n → length qs ≡ n → args_meet n (encode_pats ps ++ xs) (encode_pats qs ++ ys) ≡ overlaps ps qs
 unfolding args_meet
-args_are ws [] [] zero i j xs ys a b c d = refl
-args_are ws [] [] (suc n) i j xs ys a b c d = absurd (omega arith)
-args_are ws [] (q ∷ qs) zero i j xs ys a b c d = absurd (omega arith)
-args_are ws [] (q ∷ qs) (suc n) i j xs ys a b c d = absurd (omega arith)
-args_are ws (p ∷ ps) [] zero i j xs ys a b c d = absurd (omega arith)
-args_are ws (p ∷ ps) [] (suc n) i j xs ys a b c d = absurd (omega arith)
-args_are ws (p ∷ ps) (q ∷ qs) zero i j xs ys a b c d = absurd (omega arith)
-args_are ws (p ∷ ps) (q ∷ qs) (suc n) i j xs ys a b c d =
-    let h : heads_meet (drop i ws) (drop j ws) ≡ overlap p q =
-    ap (λ l. heads_meet l (drop j ws)) (c ∙ append_assoc (encode_pat p) (encode_pats ps) xs) ∙ ap (heads_meet (encode_pat p ++ (encode_pats ps ++ xs))) (d ∙ append_assoc (encode_pat q) (encode_pats qs) ys) ∙ heads-are p q (encode_pats ps ++ xs) (encode_pats qs ++ ys) in
-    both (heads_meet (drop i ws) (drop j ws)) _ (overlaps ps qs)
-    (args_are ws ps qs n (i + pat_len (drop i ws)) (j + pat_len (drop j ws)) xs ys (omega arith) (omega arith) (past_first ws i p ps xs c) (past_first ws j q qs ys d))
+args_are [] [] zero xs ys a b = refl
+args_are [] [] (suc n) xs ys a b = absurd (omega arith)
+args_are [] (q ∷ qs) zero xs ys a b = absurd (omega arith)
+args_are [] (q ∷ qs) (suc n) xs ys a b = absurd (omega arith)
+args_are (p ∷ ps) [] zero xs ys a b = absurd (omega arith)
+args_are (p ∷ ps) [] (suc n) xs ys a b = absurd (omega arith)
+args_are (p ∷ ps) (q ∷ qs) zero xs ys a b = absurd (omega arith)
+args_are (p ∷ ps) (q ∷ qs) (suc n) xs ys a b =
+    let h : heads_meet (encode_pats (p ∷ ps) ++ xs) (encode_pats (q ∷ qs) ++ ys) ≡ overlap p q =
+    rw (append_assoc (encode_pat p) (encode_pats ps) xs, append_assoc (encode_pat q) (encode_pats qs) ys) (heads-are p q (encode_pats ps ++ xs) (encode_pats qs ++ ys)) in
+    both (heads_meet (encode_pats (p ∷ ps) ++ xs) (encode_pats (q ∷ qs) ++ ys)) _ (overlaps ps qs)
+    (rw (past_first p ps xs, past_first q qs ys) (args_are ps qs n xs ys (omega arith) (omega arith)))
     ∙ ap (λ t. t && overlaps ps qs) h

@@ -35,8 +35,8 @@ module _ (ws ns : List ℕ) where
       by-owner true e =
           let o = eqb-true q.owner r.owner e in
           clash-same ws ns q.opened r.opened (omega (arith, h.0)) (omega (arith, k.0)) (h.1 ∙ o ∙ sym k.1)
-          ∙ args_are ws q.sides.left r.sides.left (get_or ns (get_or ws (r.opened + 1) 0) 0) (q.opened + 2) (r.opened + 2) (encode q.sides.right ++ h.3.0) (encode r.sides.right ++ k.3.0)
-          (h.2 ∙ ap (λ i. get_or ns i 0) (o ∙ sym k.1)) (k.2 ∙ ap (λ i. get_or ns i 0) (sym k.1)) h.3.1 k.3.1
+          ∙ rw (h.3.1, k.3.1) (args_are q.sides.left r.sides.left (get_or ns (get_or ws (r.opened + 1) 0) 0) (encode q.sides.right ++ h.3.0) (encode r.sides.right ++ k.3.0)
+          (h.2 ∙ ap (λ i. get_or ns i 0) (o ∙ sym k.1)) (k.2 ∙ ap (λ i. get_or ns i 0) (sym k.1)))
       by-owner false e =
           clash-other ws ns q.opened r.opened (omega (arith, h.0)) (omega (arith, k.0)) (λ g. eqb-false q.owner r.owner e (sym h.1 ∙ g ∙ k.1))
 

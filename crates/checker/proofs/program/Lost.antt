@@ -1,18 +1,19 @@
 -- The laws of refusal 17: which functions have a rule, as booleans, and that the first that is false is the theory's lowest.
 use Prim.Native.Nat.{ℕ, zero, suc, ◌+◌, ◌≤◌, ◌<◌}
 use mathlib.Core.Path.{◌≡◌, refl, sym, ap, ap₂, subst, ◌∙◌}
-use mathlib.Core.Bool.{Bool, true, false, not, cond, ◌||◌}
+use mathlib.Core.Bool.{Bool, true, false, not, ◌||◌}
 use Rattle.std.specs.Prelude.{Option, Some, None, option_map}
-use Rattle.std.specs.List.{position, position_or_len}
+use Rattle.std.specs.List.{position}
 use mathlib.Core.List.{List, [], ◌∷◌}
 use native.Mathlib.Omega.{arith}
-use lib.Dec.{eqb, ltb, leb-suc-suc}
+use lib.Dec.{eqb}
 use lib.ListN.{length, take, set}
-use borrow.Author.Tests.{eq-eqb, ne_eqb, lt-ltb}
+use borrow.Author.Tests.{eq-eqb, ne_eqb}
 use Rattle.theory.specs.Syntax.{choose}
 use Rattle.theory.specs.Bytes.{Result, good, refuse, Declared, RuleAt, add_last, has_rule, declared_at, refuse_lost}
 use Rattle.theory.proofs.Lists.{or_right}
 use Rattle.checker.specs.Program.{lost_from, marks}
+use Rattle.checker.proofs.Position.{position-next}
 
 -- one rule more
 has-this : (f : ℕ) (rs : List RuleAt) (r : RuleAt) → r.owner ≡ f → has_rule f (add_last rs r) ≡ true
@@ -98,24 +99,13 @@ lost-below (suc n) [] = tt
 lost-below (suc n) (true ∷ bs) = below-next n (lost_from (take n bs)) (lost-below n bs)
 lost-below (suc n) (false ∷ bs) = omega arith
 
-pub lost-most : (n : ℕ) (bs : List Bool) (l : ℕ) → Some l ≡ lost_from (take n bs) → l < n
+pub lost_most : (n : ℕ) (bs : List Bool) (l : ℕ) → Some l ≡ lost_from (take n bs) → l < n
 unfolding Below
-lost-most n bs l e = subst (Below n) (sym e) (lost-below n bs)
+lost_most n bs l e = subst (Below n) (sym e) (lost-below n bs)
 
 -- `position` asks the same
 pub position-lost : (bs : List Bool) → position not bs ≡ lost_from bs
 unfolding lost_from
 position-lost [] = refl
-position-lost (true ∷ bs) = by (position_or_len not bs) (length bs) ∙ ap (option_map suc) (position-lost bs)
-  where
-    same : (b : Bool) (p : ℕ) → cond b (Some (1 + p)) None ≡ option_map suc (cond b (Some p) None)
-    same true p = let z : 1 + p ≡ suc p = omega arith in ap Some z
-    same false p = refl
-
-    by : (p n : ℕ) → cond (ltb (1 + p) (suc n)) (Some (1 + p)) None ≡ option_map suc (cond (ltb p n) (Some p) None)
-    by p n =
-        let z : 1 + p ≡ suc p = omega arith in
-        ap (λ (i : ℕ). cond (ltb i (suc n)) (Some i) None) z ∙ ap (λ (b : Bool). cond b (Some (suc p)) None) (leb-suc-suc (suc p) n) ∙ ap (λ (i : ℕ). cond (ltb p n) (Some i) None) (sym z) ∙ same (ltb p n) p
-position-lost (false ∷ bs) =
-    let l : 0 < suc (length bs) = omega arith in
-    rw (lt-ltb 0 (suc (length bs)) l)
+position-lost (true ∷ bs) = position-next not true bs ∙ ap (option_map suc) (position-lost bs)
+position-lost (false ∷ bs) = position-next not false bs

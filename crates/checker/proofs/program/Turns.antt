@@ -91,40 +91,40 @@ module _ (ws : List ℕ) (t : Top) where
     unfolding exception_turn
     exception-goes b =
         choose-goes (takes_exceptions t.stage) _ _
-        (λ e. choose-goes (ltb t.exceptions 16) _ _
-        (λ e. choose-goes (eqb b t.exceptions) _ _ (λ x. (λ h. on, λ k. (k.0, k.1, k.2, k.3, omega (arith, ltb-true t.exceptions 16 e), k.5))) (λ e. tt)) (λ e. tt))
+        (λ e. choose-goes (ltb t.read.exceptions 16) _ _
+        (λ e. choose-goes (eqb b t.read.exceptions) _ _ (λ x. (λ h. on, λ k. (k.0, k.1, k.2, k.3, omega (arith, ltb-true t.read.exceptions 16 e), k.5))) (λ e. tt)) (λ e. tt))
         (λ e. tt)
 
     function-goes : (b a : ℕ) → Goes (function_turn t b a q)
     unfolding function_turn
     function-goes b a =
         choose-goes (takes_functions t.stage) _ _
-        (λ e. choose-goes (ltb t.functions 32) _ _
-        (λ e. choose-goes (eqb b t.functions && leb a 4) _ _ (λ x. (λ h. on, λ k. (omega (arith, ltb-true t.functions 32 e), length-set t.arities (16 + t.functions) a ∙ k.1, k.2, k.3, k.4, k.5))) (λ x. tt))
+        (λ e. choose-goes (ltb t.read.functions 32) _ _
+        (λ e. choose-goes (eqb b t.read.functions && leb a 4) _ _ (λ x. (λ h. on, λ k. (omega (arith, ltb-true t.read.functions 32 e), length-set t.read.arities (16 + t.read.functions) a ∙ k.1, k.2, k.3, k.4, k.5))) (λ x. tt))
         (λ e. tt))
         (λ e. tt)
 
-    right-goes : (f : ℕ) (r : Result Side Refusal) → t.rules < 64 → Grows q r → Goes (right_turn t f r)
+    right-goes : (f : ℕ) (r : Result Side Refusal) → t.read.rules < 64 → Grows q r → Goes (right_turn t f r)
     unfolding right_turn
     right-goes f (Err e) few h = tt
-    right-goes f (Ok r) few h = (λ e. omega (arith, h, on), λ k. (k.0, k.1, omega arith, length-set t.openings t.rules t.place ∙ k.3, k.4, length-set t.ruled f true ∙ k.5))
+    right-goes f (Ok r) few h = (λ e. omega (arith, h, on), λ k. (k.0, k.1, omega arith, length-set t.read.openings t.read.rules t.place ∙ k.3, k.4, length-set t.ruled f true ∙ k.5))
 
-    left-goes : (f : ℕ) (l : Result Side Refusal) (right : List Bool → ℕ → Result Side Refusal) → t.rules < 64 → Grows q l → ((s : List Bool) (p : ℕ) → Grows p (right s p)) → Goes (left_turn t f l right)
+    left-goes : (f : ℕ) (l : Result Side Refusal) (right : List Bool → ℕ → Result Side Refusal) → t.read.rules < 64 → Grows q l → ((s : List Bool) (p : ℕ) → Grows p (right s p)) → Goes (left_turn t f l right)
     unfolding left_turn
     left-goes f (Err e) right few h k = tt
     left-goes f (Ok l) right few h k = right-goes f (right l.seen l.at) few (grows-from q l.at (right l.seen l.at) h (k l.seen l.at))
 
-    sides-goes : (f : ℕ) → t.rules < 64 → Goes (sides_turn ws t f q)
+    sides-goes : (f : ℕ) → t.read.rules < 64 → Goes (sides_turn ws t f q)
     unfolding sides_turn scan_from
     sides-goes f few =
-        left-goes f (scan t.exceptions (own_arities t) ws (suc (length ws - q)) Left no_vars (get_or (own_arities t) f 0) 1 q) (λ s p. scan t.exceptions (own_arities t) ws (suc (length ws - p)) Right s 1 0 p) few
-        (scan-grows t.exceptions (own_arities t) ws (suc (length ws - q)) Left no_vars (get_or (own_arities t) f 0) 1 q)
-        (λ s p. scan-grows t.exceptions (own_arities t) ws (suc (length ws - p)) Right s 1 0 p)
+        left-goes f (scan t.read.exceptions (own_arities t) ws (suc (length ws - q)) Left no_vars (get_or (own_arities t) f 0) 1 q) (λ s p. scan t.read.exceptions (own_arities t) ws (suc (length ws - p)) Right s 1 0 p) few
+        (scan-grows t.read.exceptions (own_arities t) ws (suc (length ws - q)) Left no_vars (get_or (own_arities t) f 0) 1 q)
+        (λ s p. scan-grows t.read.exceptions (own_arities t) ws (suc (length ws - p)) Right s 1 0 p)
 
     rule-goes : (b : ℕ) → Goes (rule_turn ws t b q)
     unfolding rule_turn
     rule-goes b =
-        choose-goes (ltb t.rules 64) _ _ (λ e. choose-goes (ltb b t.functions) _ _ (λ u. sides-goes b (ltb-true t.rules 64 e)) (λ e. tt)) (λ e. tt)
+        choose-goes (ltb t.read.rules 64) _ _ (λ e. choose-goes (ltb b t.read.functions) _ _ (λ u. sides-goes b (ltb-true t.read.rules 64 e)) (λ e. tt)) (λ e. tt)
 
   lost-goes : (o : Option ℕ) (go : Unit {0} → Result Top Refusal) → Goes (go tt) → Goes (or_lost t o go)
   lost-goes (Some f) go h = tt

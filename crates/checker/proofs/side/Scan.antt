@@ -1,14 +1,16 @@
 -- The laws of the scan of a side: what one record makes of it, and that its fuel is always enough.
 use Prim.Native.Nat.{ℕ, zero, suc, ◌+◌, ◌-◌, ◌≤◌, ◌<◌}
-use mathlib.Core.Path.{◌≡◌, refl, sym, ap, ◌∙◌}
+use mathlib.Core.Path.{◌≡◌, refl, sym, ap, subst, ◌∙◌}
 use mathlib.Core.Bool.{Bool, true, false}
 use mathlib.Core.List.{List}
 use native.Mathlib.Omega.{arith}
 use lib.Dec.{leb}
-use lib.ListN.{length}
+use lib.ListN.{length, get_or, set}
 use borrow.Author.Tests.{le-leb, lt-leb}
 use Rattle.std.specs.Prelude.{Option, Some, None, Result, Ok, Err}
-use Rattle.theory.specs.Syntax.{choose}
+use Rattle.theory.specs.Syntax.{pick, choose}
+use Rattle.theory.specs.Bytes
+use Rattle.theory.specs.Bytes.{refused, good, TermRecord, constant_record, succ_record, if_record, variable_record, raise_record, handle_record, call_record}
 use Rattle.checker.specs.declared.side.Stand.{Stand}
 use Rattle.checker.specs.declared.side.Stand.TheVariants.{Left, Right, Asked}
 use Rattle.record.specs.declared.Record.{Record}
@@ -20,7 +22,7 @@ use Rattle.checker.specs.declared.refusal.Refusal.{Refusal}
 use Rattle.checker.specs.Refusal.{refuse}
 use Rattle.record.specs.Record.{record_at}
 use Rattle.checker.specs.Node.{tok_at}
-use Rattle.checker.specs.Side.{step_of, most_of, on_step, on_record, scan, scan_from}
+use Rattle.checker.specs.Side.{taken, admitted, step_of, most_of, on_step, on_record, scan, scan_from}
 use Rattle.record.proofs.Laws.{record-fits}
 
 pub most-small : (m : Stand) → most_of m ≤ 512
@@ -28,6 +30,58 @@ unfolding most_of
 most-small Left = omega arith
 most-small Right = omega arith
 most-small Asked = omega arith
+
+-- a record that is let in has a word at least
+Worded : Result Step Reason → Type 0
+Worded (Err e) = Unit {0}
+Worded (Ok r) = 0 < r.words
+
+taken-worded : (t : TermRecord) (s : List Bool) → Worded (taken t s)
+unfolding Worded
+taken-worded (constant_record b) s = omega arith
+taken-worded succ_record s = omega arith
+taken-worded if_record s = omega arith
+taken-worded (variable_record x) s = omega arith
+taken-worded (raise_record e) s = omega arith
+taken-worded (handle_record e) s = omega arith
+taken-worded (call_record k n) s = omega arith
+
+pick-worded : (b : Bool) (x y : Result Step Reason) → Worded x → Worded y → Worded (pick b x y)
+pick-worded true x y h k = h
+pick-worded false x y h k = k
+
+worded : (m : Stand) (s : List Bool) (t : TermRecord) → Worded (admitted m s t)
+unfolding admitted Worded
+worded Left s (constant_record b) = taken-worded (constant_record b) s
+worded Left s succ_record = taken-worded succ_record s
+worded Left s if_record = tt
+worded Left s (variable_record x) = pick-worded (get_or s x false) _ _ tt (taken-worded (variable_record x) (set s x true))
+worded Left s (raise_record e) = tt
+worded Left s (handle_record e) = tt
+worded Left s (call_record k n) = tt
+worded Right s (constant_record b) = taken-worded (constant_record b) s
+worded Right s succ_record = taken-worded succ_record s
+worded Right s if_record = taken-worded if_record s
+worded Right s (variable_record x) = pick-worded (get_or s x false) _ _ (taken-worded (variable_record x) s) tt
+worded Right s (raise_record e) = taken-worded (raise_record e) s
+worded Right s (handle_record e) = taken-worded (handle_record e) s
+worded Right s (call_record k n) = taken-worded (call_record k n) s
+worded Asked s (constant_record b) = taken-worded (constant_record b) s
+worded Asked s succ_record = taken-worded succ_record s
+worded Asked s if_record = taken-worded if_record s
+worded Asked s (variable_record x) = tt
+worded Asked s (raise_record e) = taken-worded (raise_record e) s
+worded Asked s (handle_record e) = taken-worded (handle_record e) s
+worded Asked s (call_record k n) = taken-worded (call_record k n) s
+
+step-worded-any : (m : Stand) (s : List Bool) (t : Bytes.Result TermRecord) → Worded (step_of m s t)
+unfolding step_of Worded
+step-worded-any m s (refused x) = tt
+step-worded-any m s (good t) = worded m s t
+
+pub step-worded : (m : Stand) (s : List Bool) (t : Bytes.Result TermRecord) (r : Step) → Ok r ≡ step_of m s t → 0 < r.words
+unfolding Worded
+step-worded m s t r e = subst Worded (sym e) (step-worded-any m s t)
 
 pub choose-same : {A : Type 0} (b : Bool) (x y x' y' : Unit {0} → A) → (b ≡ true → x tt ≡ x' tt) → (b ≡ false → y tt ≡ y' tt) → choose b x y ≡ choose b x' y'
 choose-same true x y x' y' h k = h refl

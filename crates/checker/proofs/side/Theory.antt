@@ -11,7 +11,6 @@ use Rattle.std.specs.Prelude.{Result, Err}
 use Rattle.theory.specs.Syntax.{elem, pick, choose}
 use Rattle.theory.specs.Bytes.{TermRecord, constant_record, succ_record, if_record, variable_record, raise_record, handle_record, call_record, record_parts, record_words, NextRecord, none_left, cut_short, next_is, next_record, refused, good, refuse, if_good, term_record, Where, on_left, on_right, in_question, allowed, ceiling, add_record, read_term_record, read_side}
 use Rattle.theory.specs.Bytes
-use Rattle.theory.proofs.RecordRead.{RecordRead, record-read}
 use Rattle.checker.specs.declared.side.Step.{Step}
 use Rattle.checker.specs.declared.side.Side.{Side}
 use Rattle.checker.specs.declared.refusal.Reason.{Reason}
@@ -21,6 +20,7 @@ use Rattle.checker.specs.Refusal.{reason_of}
 use Rattle.checker.specs.Answer.{declared}
 use Rattle.record.specs.Record.{record_of, record_at}
 use Rattle.checker.specs.Node.{tok_at}
+use Rattle.checker.proofs.node.Laws.{Marked, tok-marked}
 use Rattle.checker.specs.Side.{taken, admitted, step_of, most_of, on_step, on_record, scan, stand_of, bits, seen_in, side_of}
 use Rattle.record.proofs.Laws.{Behind, behind}
 
@@ -46,31 +46,6 @@ bits-set xs (suc (suc (suc (suc (suc zero))))) h = refl
 bits-set xs (suc (suc (suc (suc (suc (suc zero)))))) h = refl
 bits-set xs (suc (suc (suc (suc (suc (suc (suc zero))))))) h = refl
 bits-set xs (suc (suc (suc (suc (suc (suc (suc (suc x)))))))) h = absurd (omega arith)
-
--- a record is refused at its place; a variable that is read is at most 7
-abbrev Marked : ℕ → Bytes.Result TermRecord → Type 0
-Marked p (refused r) = r.place ≡ p
-Marked p (good (constant_record b)) = Unit {0}
-Marked p (good succ_record) = Unit {0}
-Marked p (good if_record) = Unit {0}
-Marked p (good (variable_record x)) = x ≤ 7
-Marked p (good (raise_record e)) = Unit {0}
-Marked p (good (handle_record e)) = Unit {0}
-Marked p (good (call_record k n)) = Unit {0}
-
-tok-marked : (n : ℕ) (ns : List ℕ) (p k b : ℕ) → Marked p (tok_at n ns p k b)
-unfolding tok_at
-tok-marked n ns p k b = by (term_record (declared n ns) p k b) (record-read (declared n ns) p k b)
-  where
-    by : (r : Bytes.Result TermRecord) → RecordRead (declared n ns) p k b r → Marked p r
-    by (refused r) (at, e) = at
-    by (good (constant_record c)) e = tt
-    by (good succ_record) e = tt
-    by (good if_record) e = tt
-    by (good (variable_record x)) e = e.2
-    by (good (raise_record x)) e = tt
-    by (good (handle_record x)) e = tt
-    by (good (call_record f n)) e = tt
 
 -- what the theory allows is what the step takes
 abbrev Allows : Where → ℕ → TermRecord → Bytes.Result Where → Result Step Reason → Type 0

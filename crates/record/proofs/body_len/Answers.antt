@@ -1,7 +1,6 @@
 -- `record::body_len` meets its contract.
-use mathlib.Core.Path.{sym}
-use Rattle.record.proofs.Laws.{no_body}
+use Rattle.record.proofs.Laws.{body-read}
 use Rattle.record.proofs.body_len.Goals as goal
 
-pub returns-in-None : goal.returns-in-None
-returns-in-None c = sym (no_body c.args.byte c.in-None.ensures)
+pub returns : goal.returns
+returns c = body-read _ _ c.try_from.result c.map_or.ensures c.try_from.ensures

@@ -29,10 +29,9 @@ slice_bounds-said_of-end g c = whole g (goal.at.slice_bounds-said_of-end g c).Af
 pub slice_bounds-said_of-end-2 : goal.slice_bounds-said_of-end-2
 slice_bounds-said_of-end-2 g c = sym (length-take-le _ _ (whole g (goal.at.slice_bounds-said_of-end-2 g c).After-start_by-ran))
 
-pub returns-clause-value : goal.returns-clause-value
+pub returns : goal.returns
 unfolding run_on
-returns-clause-value g c =
+returns g c =
     let a = c.args in
-    let l : Last = run_by a.lists a.question.now a.room a.allowance in
-    settled l a.room c.start_by-ran.result a.first.now c.start_by-ran.new.first c.said_of-said.result c.start_by-ran.ensures.value
-    (from-fits (next_by a.lists) a.room a.allowance a.question.now) c.requires.room_in_bounds.0 c.start_by-ran.ensures.first_after c.said_of-said.ensures
+    settled (run_by a.lists a.question.now a.room a.allowance) a.room c.start_by-ran.result _ _ _ _ c.said_of-said.result c.start_by-ran.ensures
+    (from-fits (next_by a.lists) a.room a.allowance a.question.now) c.requires.room_in_bounds.0 c.said_of-said.ensures

@@ -13,8 +13,8 @@ use Rattle.term_words.specs.Records.{term_at}
 use Rattle.term_words.proofs.Standing.{question-stands}
 use Rattle.translator.proofs.question_words.Goals as goal
 
-pub term_words-requires : goal.term_words-requires
-term_words-requires c =
+pub put_term-requires : goal.put_term-requires
+put_term-requires c =
     let a = c.args in
     let q = c.requires.asked in
     let s = question-stands q.declared a.arities.now a.question.now q.term q.agrees q.read in
@@ -29,14 +29,14 @@ pub returns-clause-of_question_2 : goal.returns-clause-of_question_2
 returns-clause-of_question_2 c D t h e =
     let a = c.args in
     let s = ap (λ (u : Term). length (words (tree u))) (question-stands D a.arities.now a.question.now t h e).1 in
-    omega (arith, s, c.written.ensures, c.term_words.ensures.wrote.place, c.new-out.ensures.start)
+    omega (arith, s, c.written.ensures, c.put_term.ensures.wrote.place, c.new-out.ensures.start)
 
 pub returns-clause-of_question_3 : goal.returns-clause-of_question_3
 returns-clause-of_question_3 c D t h e =
     let a = c.args in
     let ws = words (tree (term_at a.arities.now a.question.now 0)) in
-    let w : c.term_words.new.out.dst.now ≡ over (words (tree t)) a.dst.now =
-    c.term_words.ensures.wrote.words ∙ ap₂ (λ (i : ℕ) (d : List ℕ). put i ws d) c.new-out.ensures.start c.new-out.ensures.words
+    let w : c.put_term.new.out.dst.now ≡ over (words (tree t)) a.dst.now =
+    c.put_term.ensures.wrote.words ∙ ap₂ (λ (i : ℕ) (d : List ℕ). put i ws d) c.new-out.ensures.start c.new-out.ensures.words
     ∙ ap (λ (u : Term). over (words (tree u)) a.dst.now) (question-stands D a.arities.now a.question.now t h e).1 in
-    let same = c.term_words.ensures.wrote.same_slice in
+    let same = c.put_term.ensures.wrote.same_slice in
     search rules

@@ -5,4 +5,4 @@ use Rattle.checker.specs.Overlap.{args_meet}
 use Rattle.checker.proofs.overlap.lefts_meet.Given as goal
 
 abbrev pub invariant-loop : goal.invariant-loop
-invariant-loop l = args_meet l.bytes l.count l.first l.second ≡ args_meet l.bytes (l.count - l.counter) l.i l.j
+invariant-loop l = args_meet l.count l.first l.second ≡ args_meet (l.count - l.counter) l.left l.right

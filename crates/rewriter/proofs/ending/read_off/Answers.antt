@@ -1,6 +1,5 @@
 -- `ending::read_off` meets its contract.
 use mathlib.Core.Path.{◌≡◌, sym, ap, ◌∙◌}
-use Prim.Native.Nat.{◌+◌}
 use lib.ListN.{get_or}
 use Rattle.std.proofs.Common.{rules, tests}
 use Rattle.std.specs.Prelude.{position}
@@ -18,8 +17,7 @@ found c = position_from_yields_List no_succ _ _ c.position.result c.position.ens
 pub returns-in-Some : goal.returns-in-Some
 returns-in-Some c =
     let at = sym (found (goal.at.returns-in-Some c).After-position) ∙ c.in-Some.is in
-    let next : c.unwrap_or.result ≡ get_or c.args.term.now (c.in-Some.k + 1) 0 = search rules in
-    c.at_root.ensures ∙ ap (root_w (get_or c.args.term.now c.in-Some.k 0) c.in-Some.k) next ∙ sym (read-first c.args.term.now c.in-Some.k at)
+    c.at_root.ensures ∙ ap (root_w (get_or c.args.term.now c.in-Some.k 0) c.in-Some.k) c.get_or.ensures ∙ sym (read-first c.args.term.now c.in-Some.k at)
 
 pub returns-in-None : goal.returns-in-None
 returns-in-None c = sym (read-none c.args.term.now (sym (found (goal.at.returns-in-None c).After-position) ∙ c.in-None.is))

@@ -5,13 +5,9 @@ use Prim.Native.Nat.{ℕ, ◌+◌}
 use lib.ListN.{length, drop, set, length-set}
 use Rattle.rules.specs.Matching.{binds}
 use Rattle.rules.specs.declared.index.Span.{Span}
-use Rattle.rules.proofs.Takes.{binds-end, binds-stop, binds-var, binds-plain}
+use Rattle.rules.proofs.Takes.{binds-var, binds-plain}
 use Rattle.rules.proofs.matching.bind.Goals as goal
 use Rattle.rules.proofs.matching.bind.Goals.{then-is_var, else-is_var}
-
-pub returns-in_default : goal.returns-in_default
-returns-in_default c =
-    sym (c.loop-p.invariant.1 ∙ binds-stop _ _ _ _ _ c.loop-p-test.true _ (sym c.take_word.ensures ∙ c.in_default.is))
 
 pub loop-p-preserved : goal.loop-p-preserved
 loop-p-preserved c =
@@ -34,6 +30,3 @@ loop-p-preserved c =
             ∙ cc (w.bound-is, w.j-is),
       )
     ]
-
-pub returns : goal.returns
-returns c = sym (c.loop-p.invariant.1 ∙ binds-end _ _ _ _ _ _ c.loop-p-test.false)

@@ -6,10 +6,10 @@ use Rattle.std.proofs.lemmas.Option.{gets}
 use Rattle.words.specs.Terms.{arity_of}
 use Rattle.words.proofs.terms.arity.Goals as goal
 
-pub returns-then-w-lt256 : goal.returns-then-w-lt256
+pub returns-then-w-lt-FUNCTION : goal.returns-then-w-lt-FUNCTION
 unfolding arity_of
-returns-then-w-lt256 c = simp (lt-ltb _ _ c.if-w-lt256.true) (grind (arith, common_steps, gets))
+returns-then-w-lt-FUNCTION c = simp (lt-ltb _ _ c.if-w-lt-FUNCTION.true) (grind (arith, common_steps, gets))
 
 pub returns : goal.returns
 unfolding arity_of
-returns c = simp (le-ltb _ _ c.if-w-lt256.false) (grind (arith, common_steps, gets))
+returns c = simp (le-ltb _ _ c.if-w-lt-FUNCTION.false) (grind (arith, common_steps, gets))

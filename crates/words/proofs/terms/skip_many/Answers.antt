@@ -14,9 +14,6 @@ under c =
     let a = c.args in
     c.loop-owed.invariant ∙ past-run a.arities.now a.words.now c.loop-owed.next c.root_of-root.result c.loop-owed.owed (omega arith) c.root_of-root.ensures
 
-pub loop-owed-init : goal.loop-owed-init
-loop-owed-init c = rw c.from-owed.ensures
-
 pub returns-then-words-root : goal.returns-then-words-root
 returns-then-words-root c =
     sym ((under (goal.at.returns-then-words-root c).After-root_of-root) ∙ past-few _ _ _ _ (simp length-drop (omega arith)))

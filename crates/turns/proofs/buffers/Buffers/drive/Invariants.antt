@@ -13,8 +13,8 @@ abbrev pub invariant-loop-stop : goal.invariant-loop-stop
 invariant-loop-stop g l =
     Going (next_by l.search.lists) l.allowance l.initial.self l.self l.steps
     × Lent l.initial.self l.self
-    × OnPath l.search.lists.arities.now (term_of l.self) l.path l.last
-    × (length l.path ≡ length l.initial.path)
+    × OnPath l.search.lists.arities.now (term_of l.self) l.trail.places.now l.trail.last
+    × (length l.trail.places.now ≡ length l.initial.trail.places.now)
 
 abbrev pub decreases-loop-stop : goal.decreases-loop-stop
 decreases-loop-stop g l = l.allowance - l.steps

@@ -1,7 +1,0 @@
--- `exceptions::raise_rules` meets its contract.
-use Rattle.theory.specs.Translation.{raise_rule}
-use Rattle.generated.proofs.exceptions.raise_rules.Given as goal
-
--- the rules that are written
-abbrev pub ghost-put_each : goal.ghost-put_each
-ghost-put_each a = raise_rule

@@ -1,8 +1,0 @@
--- `exceptions::unequal_rules_of` meets its contract.
-use Rattle.theory.specs.Translation.{other_rule}
-use Rattle.generated.specs.contracts.exceptions.fn.unequal_rules_of.put_each as closure
-use Rattle.generated.proofs.exceptions.unequal_rules_of.Given as goal
-
--- the rules that are written
-abbrev pub ghost-put_each : goal.ghost-put_each
-ghost-put_each a = other_rule (closure.captures a.rules).d
