@@ -56,7 +56,7 @@ def functions():
                 i += 1
             params = [tuple(x.strip() for x in p.split(':', 1)) for p in parts(t[m.end():i - 1]) if ':' in p]
             clauses, rest = [], t[i:]
-            k = re.match(r'[^{;]*?(?=\s(requires|ensures)\b|\{|;)', rest).end()
+            k = re.match(r'(?:\[[^\]]*\]|[^{;\[])*?(?=\s(requires|ensures)\b|\{|;)', rest).end()
             while True:
                 c = re.match(r'\s*(requires|ensures)\s*\w*\s*', rest[k:])
                 if not c:

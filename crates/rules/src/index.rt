@@ -41,7 +41,7 @@ impl Span {
 }
 
 // For each slot, from the place of the first rule whose root has that slot to the place past the last; an empty part, which ends at 0, where
-// there is none. An index of Options takes twice as long to make as a short question to answer; what is read of it is one (`at_slot`).
+// there is none. What is read of it is an Option (`at_slot`); a slot that is one itself takes longer to make than a short question can spare.
 pub type Index = [Span; 401];
 
 // The slot of a root symbol; all that is neither a small symbol nor a function's shares the last.
