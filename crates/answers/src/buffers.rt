@@ -1,5 +1,7 @@
 // The words that are lent to the rewriter, case by case.
-ghost use Rattle.std.specs.Prelude.{◌≡◌, replicate};
+ghost use Rattle.std.specs.Prelude.{◌≡◌, replicate, IfOk};
+ghost use Rattle.answers.specs.Fields.{Reads};
+ghost use Rattle.answers.specs.Answered.{Unread, Refused};
 
 use crate::cases::{Case, read_case};
 use crate::output::Output;
@@ -74,7 +76,9 @@ impl Buffers {
     }
 
     // The answer to a case. What refuses the evaluator comes before what refuses the rewriter alone.
-    fn put_case(&mut self, rt: &impl Print, out: &mut Output, case: &Case) -> io::Result<()> {
+    fn put_case(&mut self, rt: &impl Print, out: &mut Output, case: &Case) -> io::Result<()>
+        ensures { IfOk result (λ u. Refused case.now out.old.held.items out.new.held.items) }
+    {
         let evaluated = bridge::evaluate(
             case.program.as_slice(),
             case.question.as_slice(),
@@ -93,7 +97,10 @@ impl Buffers {
     }
 
     // The answer to a line.
-    pub fn put_answer(&mut self, rt: &impl Print, out: &mut Output, line: &[u8]) -> io::Result<()> {
+    pub fn put_answer(&mut self, rt: &impl Print, out: &mut Output, line: &[u8]) -> io::Result<()>
+        ensures unread { IfOk result (λ u. Unread line.now out.old.held.items out.new.held.items) }
+        ensures refused { (c : Case) → Reads line.now c → IfOk result (λ u. Refused c out.old.held.items out.new.held.items) }
+    {
         match read_case(line) {
             None => out.put_piece(rt, b"bad line\n"),
             Some(case) => self.put_case(rt, out, &case),
