@@ -44,7 +44,6 @@ pub struct Call<'a> {
     pub rule: &'a [u16],
     pub n: usize,
     pub ghost few: { n ≤ 8 },
-    pub ghost long: { n + 3 ≤ length rule.now },
 }
 
 // What a test looks at, the part before which there are so many others, and the symbol that it leads to.
@@ -70,11 +69,11 @@ impl<'a> Call<'a> {
         Some(Call { rule, n })
     }
 
-    // The words behind its left side.
+    // The words behind its left side; none in a rule that ends before.
     fn right(self) -> &'a [u16]
         ensures { result.now ≡ drop (self.entry.n + 3) self.entry.rule.now }
     {
-        &self.rule[self.n + 3..]
+        self.rule.get(self.n + 3..).unwrap_or(&[])
     }
 
     // The symbol b, where its right side is b(x1..xn).

@@ -27,9 +27,15 @@ use Rattle.place.proofs.Path.{site-inside}
 use Rattle.rules.proofs.Handed.{handed-words}
 use Rattle.place.specs.declared.Site.{Site}
 use Rattle.theory.specs.Buffers.{part}
-use Rattle.splice.specs.Right.{Within, Parts, new, step_of}
-use Rattle.step.specs.Next.{left, right, bound_by, past_by, end_by, end_of, ruled, sited, next_w, OnNext}
+use Rattle.splice.specs.Right.{Within, Parts, new, step_of, placed, written_of}
+use Rattle.step.specs.declared.Next.{Next}
+use Rattle.step.specs.Next.{left, right, bound_by, past_by, end_by, end_of, ruled, sited, next_w, made, next_in, placed_next, OnNext}
 use Rattle.rules.specs.Finding.{fitting_of, rule_of}
+
+-- what the answers come to: of a next term the written words, or that it is too big, and what stands in the second buffer
+pub answered : (room : ℕ) (o : Option (List ℕ)) (u d x : List ℕ) (w : Maybe ℕ) (r : Next) → o ≡ some u → r ≡ made w → w ≡ written_of room u → x ≡ placed room u d
+    → (r ≡ next_in room o) × (x ≡ placed_next room o d)
+answered room o u d x w r e p q l = (p ∙ ap made q ∙ sym (ap (next_in room) e), l ∙ sym (ap (λ (o : Option (List ℕ)). placed_next room o d) e))
 
 -- ---- the slots end within the subject
 abbrev Inside : List Span → ℕ → Type 0
@@ -229,6 +235,6 @@ next-on ks standing own si oi ws path (Some z) n e h =
 -- the steps of the code: to the end of what a left side takes, of a rule's use, and to the next term
 pub ruleset end_steps = (end-done)
 
-pub ruleset use_steps = (ruled-cut, used-over, used-is)
+pub ruleset use_steps = (ruled-cut, used-over, used-is, answered)
 
 pub ruleset next_steps = (next-none, next-ruled, handed-words, site-inside)

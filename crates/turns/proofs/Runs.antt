@@ -1,5 +1,5 @@
 -- The laws of runs and of turns.
-use mathlib.Core.Path.{◌≡◌, refl, sym, ap, ap₂, subst, ◌∙◌}
+use mathlib.Core.Path.{◌≡◌, refl, sym, ap, ap₂, subst, subst₂, ◌∙◌}
 use mathlib.Core.Bool.{Bool, true, false, not}
 use mathlib.Core.Option.{Option, none, some}
 use mathlib.Core.List.{List, [], ◌++◌}
@@ -142,13 +142,6 @@ module _ {ks : List ℕ} {next : List ℕ → Option (List ℕ)} {room steps all
   abbrev answer : Next
   answer = next_in room (next t')
 
-  -- the steps in place are steps of the run: what is left to run after them
-  settles : run next room (allowance - steps) steps t ≡ run next room (allowance - r.steps) r.steps t'
-  settles =
-      let left : allowance - steps - (r.steps - steps) ≡ allowance - r.steps = omega (arith, h.more, h.within) in
-      let made : steps + (r.steps - steps) ≡ r.steps = omega (arith, h.more) in
-      run-leads next room (r.steps - steps) (allowance - steps) steps t t' h.leads (omega (arith, h.more, h.within)) ∙ ap₂ (λ (i j : ℕ). run next room i j t') left made
-
   one_left : r.steps < allowance → allowance - r.steps ≡ suc (allowance - (r.steps + 1))
   one_left k = omega arith
 
@@ -184,8 +177,8 @@ module _ {ks : List ℕ} {next : List ℕ → Option (List ℕ)} {room steps all
       by Over a q = over (leb allowance r.steps) refl a q
       by (Made m) a q = made_one m (leb allowance r.steps) refl a q
 
-  round-stopped : (at : Stop) → r.next ≡ Break at → run next room (allowance - steps) steps t ≡ record { ending = at.ending; steps = at.steps; term = t' }
-  round-stopped at q = settles ∙ stopped at (sym h.move ∙ q)
+  round-stopped : (at : Stop) → r.next ≡ Break at → Stopped at
+  round-stopped at q = stopped at (sym h.move ∙ q)
 
   -- a round after which it goes on
   record More (n : ℕ) : Type 0 where
@@ -212,7 +205,7 @@ module _ {ks : List ℕ} {next : List ℕ → Option (List ℕ)} {room steps all
   record Onward (n : ℕ) : Type 0 where
     left : r.steps < allowance
     fits : n ≤ room
-    rest : run next room (allowance - steps) steps t ≡ run next room (allowance - (r.steps + 1)) (r.steps + 1) (take n o')
+    rest : run next room (allowance - r.steps) r.steps t' ≡ run next room (allowance - (r.steps + 1)) (r.steps + 1) (take n o')
     on_path : OnPath ks (take n o') trail.places.now trail.last
 
   goes_on : room ≤ length o → (n : ℕ) → r.next ≡ Continue n → Onward n
@@ -226,16 +219,16 @@ module _ {ks : List ℕ} {next : List ℕ → Option (List ℕ)} {room steps all
       record {
         left = m.left;
         fits = says.1.1.1;
-        rest = settles ∙ ap (λ (k : ℕ). run next room k r.steps t') (one_left m.left) ∙ run_on next room r.steps t' (allowance - (r.steps + 1)) u says.1.0 short
+        rest = ap (λ (k : ℕ). run next room k r.steps t') (one_left m.left) ∙ run_on next room r.steps t' (allowance - (r.steps + 1)) u says.1.0 short
             ∙ ap (run next room (allowance - (r.steps + 1)) (r.steps + 1)) (sym made);
         on_path = subst (λ (x : List ℕ). OnPath ks x trail.places.now trail.last) (sym made) (subst (λ (x : Option (List ℕ)). OnNext ks x trail.places.now trail.last) says.1.0 h.on);
       }
 
-  -- past the room both buffers are as they were, x the whole one that begins with the term
-  round-rests : (size : ℕ) (x x' : List ℕ) → size ≤ room → drop size x' ≡ drop size x → (drop room x' ≡ drop room x) × (drop room o' ≡ drop room o)
-  round-rests size x x' k e = (drop-further size room x' x k e, ap (drop room) h.other ∙ drop-placed room (next t') o)
+  -- past the room the turn leaves the other buffer as it was
+  round-rests : drop room o' ≡ drop room o
+  round-rests = ap (drop room) h.other ∙ drop-placed room (next t') o
 
--- ---- the rounds of a run in buffers, b₀ as they came, b before a round; the round leaves t' in the term's and o' in the other
+-- ---- two buffers, the one that came first and the other, or the other way round
 pub by_both : {A : Type 0} (P : A → A → Type 0) (flip : Bool) (x y x' y' : A) → P x' x → P y' y → P (source flip x' y') (source flip x y) × P (source flip y' x') (source flip y x)
 by_both P false x y x' y' p q = (p, q)
 by_both P true x y x' y' p q = (q, p)
@@ -245,11 +238,53 @@ pub changed_over : {A : Type 0} (flip : Bool) (x y : A) → source (not flip) y 
 changed_over false x y = refl
 changed_over true x y = refl
 
-pub record Going (next : List ℕ → Option (List ℕ)) (allowance : ℕ) (b₀ b : Buffers) (steps : ℕ) : Type 0 where
+-- the one of them that has the term
+pub source-twice : {A : Type 0} (flip : Bool) (x y : A) → source flip (source flip x y) (source flip y x) ≡ x
+source-twice false x y = refl
+source-twice true x y = refl
+
+-- ---- the rounds of a run from the term t₀ in buffers that held f₀ and s₀: f and s now, after so many steps
+pub record Going (next : List ℕ → Option (List ℕ)) (room allowance : ℕ) (t₀ f₀ s₀ f s : List ℕ) (flip : Bool) (size steps : ℕ) : Type 0 where
   pub within : steps ≤ allowance
-  pub rest : run next b₀.room allowance 0 (term_of b₀) ≡ run next b₀.room (allowance - steps) steps (term_of b)
-  pub first_rest : drop b₀.room (first_of b) ≡ drop b₀.room (first_of b₀)
-  pub second_rest : drop b₀.room (second_of b) ≡ drop b₀.room (second_of b₀)
+  pub fits : size ≤ room
+  pub rest : run next room allowance 0 t₀ ≡ run next room (allowance - steps) steps (take size (source flip f s))
+  pub first_rest : drop room f ≡ drop room f₀
+  pub second_rest : drop room s ≡ drop room s₀
+  pub first-length : length f ≡ length f₀
+  pub second-length : length s ≡ length s₀
+
+-- what stays from the room on, where it stays behind the term in the buffer that has it, and the other is as it was
+two-rests : (flip : Bool) (room size : ℕ) (f s f' s' : List ℕ) → size ≤ room → drop size (source flip f' s') ≡ drop size (source flip f s) → source flip s' f' ≡ source flip s f
+    → (drop room f' ≡ drop room f) × (drop room s' ≡ drop room s)
+two-rests false room size f s f' s' h e q = (drop-further size room f' f h e, ap (drop room) q)
+two-rests true room size f s f' s' h e q = (ap (drop room) q, drop-further size room s' s h e)
+
+-- STEPS IN PLACE are steps of the run: what is left to run after them, and what stays of the buffers
+pub settles : (next : List ℕ → Option (List ℕ)) (room allowance : ℕ) (t₀ f₀ s₀ f s f' s' : List ℕ) (flip : Bool) (size steps m : ℕ)
+    → Going next room allowance t₀ f₀ s₀ f s flip size steps → steps ≤ m → m ≤ allowance → Leads next room (m - steps) (take size (source flip f s)) (take size (source flip f' s'))
+    → drop size (source flip f' s') ≡ drop size (source flip f s) → source flip s' f' ≡ source flip s f → length f' ≡ length f → length s' ≡ length s
+    → Going next room allowance t₀ f₀ s₀ f' s' flip size m
+settles next room allowance t₀ f₀ s₀ f s f' s' flip size steps m g more within leads rest e lf ls =
+    let rests = two-rests flip room size f s f' s' g.fits rest e in
+    let left : allowance - steps - (m - steps) ≡ allowance - m = omega arith in
+    let made : steps + (m - steps) ≡ m = omega arith in
+    record {
+      within = within;
+      fits = g.fits;
+      rest = g.rest ∙ run-leads next room (m - steps) (allowance - steps) steps (take size (source flip f s)) (take size (source flip f' s')) leads (omega arith)
+          ∙ ap₂ (λ (i j : ℕ). run next room i j (take size (source flip f' s'))) left made;
+      first_rest = rests.0 ∙ g.first_rest;
+      second_rest = rests.1 ∙ g.second_rest;
+      first-length = lf ∙ g.first-length;
+      second-length = ls ∙ g.second-length;
+    }
+
+-- the same of the buffers b, which were b₀ as they came
+abbrev pub Rounds : (List ℕ → Option (List ℕ)) → ℕ → Buffers → Buffers → ℕ → Type 0
+Rounds next allowance b₀ b steps = Going next b₀.room allowance (term_of b₀) (first_of b₀) (second_of b₀) (first_of b) (second_of b) b.flip b.size steps
+
+has-term : (b : Buffers) → take b.size (source b.flip (first_of b) (second_of b)) ≡ term_of b
+has-term b = ap (take b.size) (source-twice b.flip b.term.now b.other.now)
 
 -- what is behind the first words of a buffer t, of which there are so many, stays where those become u
 module _ (size : ℕ) (t u : List ℕ) (l : length u ≡ length (take size t)) (fits : size ≤ length t) where
@@ -266,7 +301,7 @@ module _ (size : ℕ) (t u : List ℕ) (l : length u ≡ length (take size t)) (
   same-length = length-append u (drop size t) ∙ simp length-drop (omega (arith, count))
 
 -- u is the term that the round leaves, at the front of the buffer that had it
-module _ {ks : List ℕ} {next : List ℕ → Option (List ℕ)} {allowance steps : ℕ} {u o' : List ℕ} {trail : Trail} {r : Outcome} {b₀ b : Buffers} (g : Going next allowance b₀ b steps) (k : Lent b₀ b)
+module _ {ks : List ℕ} {next : List ℕ → Option (List ℕ)} {allowance steps : ℕ} {u o' : List ℕ} {trail : Trail} {r : Outcome} {b₀ b : Buffers} (g : Rounds next allowance b₀ b steps) (k : Lent b₀ b)
     (h : Rounded ks next b.room steps allowance (term_of b) b.other.now u o' trail r)
     (l : length u ≡ length (term_of b)) where
   abbrev t' : List ℕ
@@ -278,16 +313,32 @@ module _ {ks : List ℕ} {next : List ℕ → Option (List ℕ)} {allowance step
   now : Rounded ks next b₀.room steps allowance (term_of b) b.other.now u o' trail r
   now = subst (λ (room : ℕ). Rounded ks next room steps allowance (term_of b) b.other.now u o' trail r) k.room h
 
+  -- once its steps in place are made
+  has-u : take b.size (source b.flip (source b.flip t' b.other.now) (source b.flip b.other.now t')) ≡ u
+  has-u = ap (take b.size) (source-twice b.flip t' b.other.now) ∙ front b.size b.term.now u l within
+
+  in-place : Going next b₀.room allowance (term_of b₀) (first_of b₀) (second_of b₀) (source b.flip t' b.other.now) (source b.flip b.other.now t') b.flip b.size r.steps
+  in-place =
+      let y = b.other.now in
+      let behind-u = behind b.size b.term.now u l within in
+      let lengths = by_both (λ (x z : List ℕ). length x ≡ length z) b.flip b.term.now y t' y (same-length b.size b.term.now u l within) refl in
+      settles next b₀.room allowance (term_of b₀) (first_of b₀) (second_of b₀) (first_of b) (second_of b) (source b.flip t' y) (source b.flip y t') b.flip b.size steps r.steps
+      g h.more h.within (subst₂ (Leads next b₀.room (r.steps - steps)) (sym (has-term b)) (sym has-u) now.leads)
+      (ap (drop b.size) (source-twice b.flip t' y) ∙ behind-u ∙ sym (ap (drop b.size) (source-twice b.flip b.term.now y)))
+      (source-twice b.flip y t' ∙ sym (source-twice b.flip y b.term.now)) lengths.0 lengths.1
+
+  left-of-u : run next b₀.room allowance 0 (term_of b₀) ≡ run next b₀.room (allowance - r.steps) r.steps u
+  left-of-u = in-place.rest ∙ ap (run next b₀.room (allowance - r.steps) r.steps) has-u
+
   pub rests : (drop b₀.room (source b.flip t' o') ≡ drop b₀.room (first_of b₀)) × (drop b₀.room (source b.flip o' t') ≡ drop b₀.room (second_of b₀))
   rests =
-      let of = round-rests now b.size b.term.now t' (omega (arith, b.size_le_room, k.room)) (behind b.size b.term.now u l within) in
-      let both = by_both (λ (x y : List ℕ). drop b₀.room x ≡ drop b₀.room y) b.flip b.term.now b.other.now t' o' of.0 of.1 in
-      (both.0 ∙ g.first_rest, both.1 ∙ g.second_rest)
+      let both = by_both (λ (x y : List ℕ). drop b₀.room x ≡ drop b₀.room y) b.flip t' b.other.now t' o' refl (round-rests now) in
+      (both.0 ∙ in-place.first_rest, both.1 ∙ in-place.second_rest)
 
   pub drove : (at : Stop) → r.next ≡ Break at → (b' : Buffers) → b'.term.now ≡ t' → b'.other.now ≡ o' → b'.flip ≡ b.flip → b'.size ≡ b.size
       → Drove (run next b₀.room allowance 0 (term_of b₀)) at b₀ b'
   drove at q b' et eo ef es =
-      let ran : run next b₀.room allowance 0 (term_of b₀) ≡ record { ending = at.ending; steps = at.steps; term = u } = g.rest ∙ round-stopped now at q in
+      let ran : run next b₀.room allowance 0 (term_of b₀) ≡ record { ending = at.ending; steps = at.steps; term = u } = left-of-u ∙ round-stopped now at q in
       let term : term_of b' ≡ (run next b₀.room allowance 0 (term_of b₀)).term = ap₂ (λ (n : ℕ) (x : List ℕ). take n x) es et ∙ front b.size b.term.now u l within ∙ sym (ap (λ (x : Last). x.term) ran) in
       record {
         ending = sym (ap (λ (x : Last). x.ending) ran);
@@ -310,13 +361,12 @@ module _ {ks : List ℕ} {next : List ℕ → Option (List ℕ)} {allowance step
       record {
         left = on.left;
         fits = omega (arith, on.fits, k.room);
-        rest = g.rest ∙ on.rest;
+        rest = left-of-u ∙ on.rest;
         on_path = on.on_path;
       }
 
   -- the buffers b' are b after the round, changed over, with a term of n words
-  module _ {n : ℕ} (b' : Buffers) (on : Onwards n) (et : b'.term.now ≡ o') (eo : b'.other.now ≡ t') (nt : b'.term.ghost_name ≡ b.other.ghost_name) (no : b'.other.ghost_name ≡ b.term.ghost_name)
-      (ef : b'.flip ≡ not b.flip) (es : b'.size ≡ n) where
+  module _ {n : ℕ} (b' : Buffers) (on : Onwards n) (et : b'.term.now ≡ o') (eo : b'.other.now ≡ t') (lo : length o' ≡ length b.other.now) (ef : b'.flip ≡ not b.flip) (es : b'.size ≡ n) where
     term-is : term_of b' ≡ take n o'
     term-is = ap₂ (λ (m : ℕ) (x : List ℕ). take m x) es et
 
@@ -326,22 +376,30 @@ module _ {ks : List ℕ} {next : List ℕ → Option (List ℕ)} {allowance step
     second-is : second_of b' ≡ source b.flip o' t'
     second-is = ap₂ (source b'.flip) eo et ∙ ap (λ (f : Bool). source f t' o') ef ∙ changed_over b.flip o' t'
 
-    pub going_on : Going next allowance b₀ b' (r.steps + 1)
-    going_on = record {
-      within = omega (arith, on.left);
-      rest = on.rest ∙ ap (run next b₀.room (allowance - (r.steps + 1)) (r.steps + 1)) (sym term-is);
-      first_rest = ap (drop b₀.room) first-is ∙ rests.0;
-      second_rest = ap (drop b₀.room) second-is ∙ rests.1;
-    }
+    lengths : (length (source b.flip t' o') ≡ length (first_of b₀)) × (length (source b.flip o' t') ≡ length (second_of b₀))
+    lengths =
+        let both = by_both (λ (x y : List ℕ). length x ≡ length y) b.flip t' b.other.now t' o' refl lo in
+        (both.0 ∙ in-place.first-length, both.1 ∙ in-place.second-length)
 
-    pub lent_on : length o' ≡ length b.other.now → b'.room ≡ b.room → Lent b₀ b'
-    lent_on lo er =
-        let lengths = by_both (λ (x y : List ℕ). length x ≡ length y) b.flip b.term.now b.other.now t' o' (same-length b.size b.term.now u l within) lo in
+    pub going_on : Rounds next allowance b₀ b' (r.steps + 1)
+    going_on =
         record {
-          first = ap₂ (source b'.flip) nt no ∙ ap (λ (f : Bool). source f b.other.ghost_name b.term.ghost_name) ef ∙ changed_over b.flip b.term.ghost_name b.other.ghost_name ∙ k.first;
-          second = ap₂ (source b'.flip) no nt ∙ ap (λ (f : Bool). source f b.term.ghost_name b.other.ghost_name) ef ∙ changed_over b.flip b.other.ghost_name b.term.ghost_name ∙ k.second;
-          first_length = ap length first-is ∙ lengths.0 ∙ k.first_length;
-          second_length = ap length second-is ∙ lengths.1 ∙ k.second_length;
+          within = omega (arith, on.left);
+          fits = omega (arith, on.fits, es, k.room);
+          rest = on.rest ∙ ap (run next b₀.room (allowance - (r.steps + 1)) (r.steps + 1)) (sym term-is ∙ sym (has-term b'));
+          first_rest = ap (drop b₀.room) first-is ∙ rests.0;
+          second_rest = ap (drop b₀.room) second-is ∙ rests.1;
+          first-length = ap length first-is ∙ lengths.0;
+          second-length = ap length second-is ∙ lengths.1;
+        }
+
+    pub lent_on : b'.term.ghost_name ≡ b.other.ghost_name → b'.other.ghost_name ≡ b.term.ghost_name → b'.room ≡ b.room → Lent b₀ b'
+    lent_on nt mo er =
+        record {
+          first = ap₂ (source b'.flip) nt mo ∙ ap (λ (f : Bool). source f b.other.ghost_name b.term.ghost_name) ef ∙ changed_over b.flip b.term.ghost_name b.other.ghost_name ∙ k.first;
+          second = ap₂ (source b'.flip) mo nt ∙ ap (λ (f : Bool). source f b.term.ghost_name b.other.ghost_name) ef ∙ changed_over b.flip b.other.ghost_name b.term.ghost_name ∙ k.second;
+          first_length = ap length first-is ∙ lengths.0;
+          second_length = ap length second-is ∙ lengths.1;
           room = er ∙ k.room;
         }
 

@@ -1,8 +1,9 @@
 // The run in which every step goes from the buffer that holds the term into the other, and none is made in place: each turn finds the
 // site in the one buffer, writes the next term into the other, and decides what follows.
-ghost use Rattle.std.specs.Prelude.{◌≤◌, length};
+ghost use Rattle.std.specs.Prelude.{◌≡◌, ◌≤◌, ◌<◌, length};
+ghost use Rattle.place.specs.Noted.{OnPath};
 ghost use Rattle.step.specs.Next.{next_by};
-ghost use Rattle.turns.specs.Run.{ran_of, run_from, Leaves};
+ghost use Rattle.turns.specs.Run.{Rounded, ran_of, run_from, Leaves};
 
 use crate::round::{Outcome, Round, decide};
 use crate::run::{Ran, start_by};
@@ -12,7 +13,7 @@ use rules::search::Search;
 use splice::term::Term;
 use step::next_into;
 
-// A round of one turn, and no step in place.
+// A round of one turn, and no step in place: the buffer that holds the term is as it was, and one step at the most is made, into the other.
 pub struct EachStep;
 
 impl Round for EachStep {
@@ -25,7 +26,14 @@ impl Round for EachStep {
         steps: usize,
         allowance: usize,
         trail: &mut Trail,
-    ) -> Outcome {
+    ) -> Outcome
+        requires term_len_bound { (length term.old ≤ room) × ((room ≤ length other.old) × ((room ≤ 65536) × (room < length trail.old.places.now))) }
+        requires on_path { OnPath search.lists.arities.now term.old trail.old.places.now trail.old.last }
+        requires steps_le_allowance { (steps ≤ allowance) × (allowance ≤ 1000000) }
+        ensures rounded { Rounded search.entry.lists.arities.now (next_by search.entry.lists) room steps allowance term.old other.old term.new other.new trail.new result }
+        ensures kept { length trail.new.places.now ≡ length trail.old.places.now }
+        ensures each { (term.new ≡ term.old) × (result.steps ≡ steps) }
+    {
         let site = trail.site_on(search, term);
         let made = next_into(search.lists, site, Term { words: term, room }, other);
         Outcome {

@@ -1,6 +1,6 @@
 -- `pass` meets its contract. The loop's invariant is `Going`: the steps so far lead from the first words as they came to those at hand, and
 -- the trail is noted up to its last place.
-use mathlib.Core.Path.{subst}
+use mathlib.Core.Path.{subst, ◌∙◌}
 use Prim.Native.Nat.{◌+◌, ◌≤◌, ◌<◌}
 use native.Mathlib.Omega.{arith}
 use borrow.Author.Rules.{rules}
@@ -22,7 +22,7 @@ further c =
     let g = c.loop-change in
     let seen = c.look-site in
     goes_on l.arities.now l.standing.list.now l.own.list.now l.standing.index.now l.own.index.now a.room a.left a.term.now a.trail.now.places.now g.term g.trail.places.now g.steps g.trail.last
-    g.invariant seen.result.site seen.new.trail.last seen.new.trail.places.now seen.ensures.site_value seen.ensures.noted
+    g.invariant.0 seen.result.site seen.new.trail.last seen.new.trail.places.now seen.ensures.site_value seen.ensures.noted
     c.in-Some.change (subst (λ (o : Option Change). Changes (next_by l) a.room seen.result.site g.term o) c.in-Some.is seen.ensures.changes) (omega arith) seen.ensures.kept
 
 pub offset_bounds-trail-trail : goal.offset_bounds-trail-trail
@@ -40,4 +40,5 @@ bounds-term-trail c =
     omega (arith, (further (goal.at.bounds-term-trail c).Then-change-left).0)
 
 pub loop-change-preserved : goal.loop-change-preserved
-loop-change-preserved c = (further (goal.at.loop-change-preserved c).Then-change-left).3
+loop-change-preserved c =
+    ((further (goal.at.loop-change-preserved c).Then-change-left).3, c.look-site.ensures.lent ∙ c.loop-change.invariant.1)

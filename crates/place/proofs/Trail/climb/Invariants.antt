@@ -11,3 +11,4 @@ invariant-loop-n l =
     let find = fitting_by l.lists in
     OnPath l.lists.arities.now l.term l.self.places.now l.initial.self.last
     × (site_at l.lists.arities.now find l.term (get_or l.self.places.now l.n 0) ≡ here_in find l.term (get_or l.self.places.now l.n 0))
+    × (l.self.places.ghost_name ≡ l.initial.self.places.ghost_name)

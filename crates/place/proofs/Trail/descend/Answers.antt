@@ -43,4 +43,4 @@ pub loop-at-preserved : goal.loop-at-preserved
 loop-at-preserved c =
     let b = sym c.below.ensures ∙ c.in-Some.is in
     let d = path-noted _ _ _ _ c.loop-at.invariant.0 _ _ c.loop-at.invariant.1 c.loop-at-test.true b (omega arith) in
-    (d.0, d.1, length-set c.loop-at.self.places.now (c.loop-at.self.last + 1) c.in-Some.p ∙ c.loop-at.invariant.2)
+    (d.0, d.1, length-set c.loop-at.self.places.now (c.loop-at.self.last + 1) c.in-Some.p ∙ c.loop-at.invariant.2, c.loop-at.invariant.3)

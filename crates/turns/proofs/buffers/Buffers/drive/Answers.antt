@@ -1,4 +1,4 @@
--- `buffers::Buffers`' `drive` meets its contract. The invariant is `Going`: what is left to run from the term at hand is what is left of the
+-- `buffers::Buffers`' `drive` meets its contract. The invariant is `Rounds`: what is left to run from the term at hand is what is left of the
 -- whole run, and the buffers are as they came past the room.
 use mathlib.Core.Path.{refl, ap, ◌∙◌}
 use mathlib.Core.List.{List}
@@ -29,8 +29,8 @@ loop-stop-preserved g c =
     let b = c.change_over.new.self in
     let over = c.change_over.ensures in
     let on = onward i.0 i.1 h l c.in-Continue.n c.in-Continue.is in (
-      going_on i.0 i.1 h l b on (ap now over.swapped.0) (ap now over.swapped.1) (ap name over.swapped.0) (ap name over.swapped.1) over.flipped over.size_value,
-      lent_on i.0 i.1 h l b on (ap now over.swapped.0) (ap now over.swapped.1) (ap name over.swapped.0) (ap name over.swapped.1) over.flipped over.size_value c.round-done.auto.other over.room_kept,
-      path_on i.0 i.1 h l b on (ap now over.swapped.0) (ap now over.swapped.1) (ap name over.swapped.0) (ap name over.swapped.1) over.flipped over.size_value,
+      going_on i.0 i.1 h l b on (ap now over.swapped.0) (ap now over.swapped.1) c.round-done.auto.other over.flipped over.size_value,
+      lent_on i.0 i.1 h l b on (ap now over.swapped.0) (ap now over.swapped.1) c.round-done.auto.other over.flipped over.size_value (ap name over.swapped.0) (ap name over.swapped.1) over.room_kept,
+      path_on i.0 i.1 h l b on (ap now over.swapped.0) (ap now over.swapped.1) c.round-done.auto.other over.flipped over.size_value,
       c.round-done.ensures.kept ∙ i.3,
     )
