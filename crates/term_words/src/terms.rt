@@ -45,13 +45,14 @@ pub struct Size {
 impl TermBytes<'_> {
     // The words of n terms, one after the other: record by record, with the number of terms still owed. The exception of a handle stands
     // behind its guarded part. Once that is passed as many terms are owed as now, the handler in place of the handle; so the exception
-    // waits in the slot of that number. Answered is the place past the terms in the bytes.
-    fn put_with(self, p: usize, n: u8, out: &mut Writer, late: &mut [Option<u16>]) -> usize
+    // waits in the slot of that number, and every slot is empty again at the end. Answered is the place past the terms in the bytes.
+    pub fn put_with(self, p: usize, n: u8, out: &mut Writer, late: &mut [Option<u16>]) -> usize
         requires p_in_bounds { (p ≤ length self.bytes.now) × Whole (from self.arities.now self.bytes.now p) n }
         requires room { Room (all_words (trees (first_terms n (terms_at self.arities.now self.bytes.now p)))) out.old }
         requires n_in_bounds { (count_of (from self.arities.now self.bytes.now p) n < length late.old) × Clear late.old 0 }
         ensures passed { Passed self.entry.arities.now self.entry.bytes.now p n result }
         ensures wrote { Wrote (all_words (trees (first_terms n (terms_at self.entry.arities.now self.entry.bytes.now p)))) out.old out.new }
+        ensures late_after { Clear late.new 0 × (length late.new ≡ length late.old) }
     {
         let mut owed = usize::from(n);
         let mut next = p;

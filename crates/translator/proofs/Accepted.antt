@@ -20,7 +20,6 @@ use Rattle.theory.proofs.AcceptedExactly.{accepted-exactly}
 use Rattle.theory.proofs.RecordsStand.{StandsAt, rules-stand}
 use Rattle.theory.proofs.Readability.{length-words}
 use Rattle.term_words.specs.Records.{Whole, span_of, count_of, from, terms_at, term_at}
-use Rattle.term_words.specs.Late.{most_owed}
 use Rattle.term_words.proofs.Standing.{Standing, terms-stand, StandingOne, term-stands, question-stands}
 use Rattle.translator.specs.declared.Source.{Source}
 use Rattle.translator.specs.Opened.{right_at}
@@ -77,7 +76,7 @@ module _ (D : Declared) (x : Source) (h : Agrees D x.arities.now) where
       whole : Whole (from x.arities.now x.program.now (p + 2)) (arity_of x r)
       whole = subst (Whole (from x.arities.now x.program.now (p + 2))) arity left-stands.whole
 
-      small_left : count_of (from x.arities.now x.program.now (p + 2)) (arity_of x r) ≤ most_owed
+      small_left : count_of (from x.arities.now x.program.now (p + 2)) (arity_of x r) ≤ 128
       small_left =
           let c = ap (count_of (from x.arities.now x.program.now (p + 2))) (sym arity) ∙ left-stands.count ∙ pats-words ps in
           let m = v.left_words in
@@ -92,7 +91,7 @@ module _ (D : Declared) (x : Source) (h : Agrees D x.arities.now) where
       right-stands : StandingOne x.arities.now (drop (right_at x p (arity_of x r)) x.program.now) r.sides.right
       right-stands = term-stands D x.arities.now h r.sides.right v.right_over (drop (right_at x p (arity_of x r)) x.program.now) rest behind
 
-      small_right : count_of (from x.arities.now x.program.now (right_at x p (arity_of x r))) 1 ≤ most_owed
+      small_right : count_of (from x.arities.now x.program.now (right_at x p (arity_of x r))) 1 ≤ 128
       small_right = let c = right-stands.count in let m = v.right_words in omega (arith, c, m)
 
   -- ALL RULES, at their openings

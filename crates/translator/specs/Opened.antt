@@ -6,7 +6,6 @@ use Rattle.theory.specs.Words.{stored_rule}
 use Rattle.theory.specs.Translation.{aux, tree, trees, ◌⇒◌}
 use Rattle.theory.specs.Bytes.{first_terms}
 use Rattle.term_words.specs.Records.{Whole, span_of, count_of, from, terms_at, term_at}
-use Rattle.term_words.specs.Late.{most_owed}
 use Rattle.translator.specs.declared.Source.{Source}
 
 -- where the right side begins, if the function has n arguments
@@ -18,13 +17,13 @@ abbrev pub rule_at : Source → ℕ → ℕ → ℕ → Rule
 rule_at s p k n =
     node (aux k (suc n)) (trees (first_terms n (terms_at s.arities.now s.program.now (p + 2)))) ⇒ tree (term_at s.arities.now s.program.now (right_at s p n))
 
--- both sides are whole, and not large
+-- both sides are whole, and not larger than a right side may be
 pub record Opened (s : Source) (p n : ℕ) : Type 0 where
   pub inside : p + 2 ≤ length s.program.now
   pub left : Whole (from s.arities.now s.program.now (p + 2)) n
   pub right : Whole (from s.arities.now s.program.now (right_at s p n)) 1
-  pub small_left : count_of (from s.arities.now s.program.now (p + 2)) n ≤ most_owed
-  pub small_right : count_of (from s.arities.now s.program.now (right_at s p n)) 1 ≤ most_owed
+  pub small_left : count_of (from s.arities.now s.program.now (p + 2)) n ≤ 128
+  pub small_right : count_of (from s.arities.now s.program.now (right_at s p n)) 1 ≤ 128
 
 -- the same of the rule at p, if it is one of function f
 pub record OpenedFor (s : Source) (p f n : ℕ) : Type 0 where

@@ -14,6 +14,9 @@ use generated::functions::call_rules;
 use generated::writing::Writer;
 use words::symbols::symbol;
 
+// Slots for the exceptions that wait in a rule's side: more than its words, which are 128 at the most.
+const SLOTS: usize = 129;
+
 // A rule in the bytes: the words of its left side and of its right side.
 #[derive(Clone, Copy)]
 pub struct Sizes {
@@ -46,8 +49,9 @@ impl Function<'_> {
         let s = self.rule_sizes(p);
         let auxiliary = symbol(16 + self.number, u16::from(self.arity) + 1);
         out.put(&[s.left, s.right, auxiliary]);
-        let middle = terms.put_terms(p + 2, self.arity, out);
-        terms.put_term(middle, out);
+        let mut late = [None; SLOTS];
+        let middle = terms.put_with(p + 2, self.arity, out, &mut late);
+        terms.put_with(middle, 1, out, &mut late);
     }
 
     // The rule at p where it is one of this function; nothing where it is another's.

@@ -1,15 +1,17 @@
 -- The laws of `over` and `put`: what a slice holds after words are written into it.
 --     length_over, length-put   a buffer keeps its length
 --     over-append               to write s and then t after it is to write s ++ t
+--     over_more                 a turn of a loop that copies word by word
 --     over-is, put-is           what is written, where it fits, in terms of take, drop and ++
 --     put-part                  what is written over a part that is lent is written into the whole
 use mathlib.Core.Path.{◌≡◌, refl, sym, ap, ◌∙◌}
 use mathlib.Core.List.{List, [], ◌∷◌, ◌++◌, append-nil}
-use Prim.Native.Nat.{ℕ, zero, suc, ◌+◌, ◌-◌, ◌≤◌}
+use Prim.Native.Nat.{ℕ, zero, suc, ◌+◌, ◌-◌, ◌≤◌, ◌<◌}
 use native.Mathlib.Nat.{le_of_suc-le-suc, not-suc-le-zero, zero-add, suc-add, suc-ne-zero, suc_inj}
+use native.Mathlib.Numerals.{add-one}
 use native.Mathlib.Omega.{arith}
-use lib.ListN.{length, take, drop, set, replicate, take-append-drop, length-drop, length-replicate, drop_of_length-le}
-use lib.Seq.{length-take-le}
+use lib.ListN.{length, take, drop, get_or, set, replicate, take-append-drop, length-drop, length-replicate, drop_of_length-le}
+use lib.Seq.{take-suc, length-take-le}
 use borrow.Rule.Slice.PartMut.{put_mid}
 use Rattle.theory.specs.Buffers.{over, put}
 
@@ -45,6 +47,13 @@ put_one [] zero a = refl
 put_one [] (suc i) a = refl
 put_one (x ∷ d) zero a = refl
 put_one (x ∷ d) (suc i) a = ap (λ (l : List ℕ). x ∷ l) (put_one d i a)
+
+-- a store just past the words written writes one word more
+pub over_more : (s d : List ℕ) (i : ℕ) → i < length s → set (over (take i s) d) i (get_or s i 0) ≡ over (take (i + 1) s) d
+over_more s d i h =
+    let word : List ℕ = get_or s i 0 ∷ [] in
+    rw (add-one, take-suc s i 0, put_one)
+    (ap (λ (n : ℕ). put n word (over (take i s) d)) (sym (length-take-le i s (omega arith))) ∙ over-append (take i s) word d)
 
 pub put-none : (n : ℕ) (d : List ℕ) → put n [] d ≡ d
 put-none zero d = refl

@@ -10,11 +10,14 @@ pub fn get_or<T: Copy>(items: &[T], at: usize, none: T) -> T
 }
 
 // dst begins with src; the rest of dst is unchanged.
+#[tactic(auto, using(crate::proofs::Writes::length_over, crate::proofs::Writes::over_more))]
 pub fn copy_into(dst: &mut [u16], src: &[u16])
     requires { length src.now ≤ length dst.old }
     ensures { dst.new ≡ over src.now dst.old }
 {
-    dst[..src.len()].copy_from_slice(src);
+    for i in 0..src.len() {
+        dst[i] = src[i];
+    }
 }
 
 // src stands in dst from the place `at` on; the rest of dst is unchanged.

@@ -85,8 +85,10 @@ returns c =
     let a = c.args in
     let s = a.self in
     let z : c.loop-owed.owed ≡ 0 = (let h = c.loop-owed-test.false in omega (arith, h)) in
-    let both = putting-end (subst (λ (i : ℕ). Putting s.arities.now s.bytes.now a.p a.n a.out.now i c.loop-owed.next c.loop-owed.late c.loop-owed.out) z c.loop-owed.invariant.0) in
+    let end : Putting s.arities.now s.bytes.now a.p a.n a.out.now 0 c.loop-owed.next c.loop-owed.late c.loop-owed.out = subst (λ (i : ℕ). Putting s.arities.now s.bytes.now a.p a.n a.out.now i c.loop-owed.next c.loop-owed.late c.loop-owed.out) z c.loop-owed.invariant.0 in
+    let both = putting-end end in
     record {
       passed = both.0;
       wrote = both.1;
+      late_after = (end.clear, c.loop-owed.invariant.1);
     }
