@@ -15,6 +15,10 @@ unfoldable pub field_of : ℕ → List ℕ → Option (List ℕ)
 field_of zero line = Some (take (unwrap_or (space_in line) (length line)) line)
 field_of (suc n) line = option_and_then (λ k. field_of n (drop (k + 1) line)) (space_in line)
 
+-- the same of what is left of a line, if anything is
+abbrev pub field_in : ℕ → Option (List ℕ) → Option (List ℕ)
+field_in n rest = option_and_then (field_of n) rest
+
 -- decimal digits, read on from n: past 32 bits the largest number of 32; none where a byte is no digit
 unfoldable pub digits_from : ℕ → List ℕ → Option ℕ
 digits_from n [] = Some n

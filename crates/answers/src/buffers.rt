@@ -3,7 +3,7 @@ ghost use Rattle.std.specs.Prelude.{◌≡◌, replicate, IfOk};
 ghost use Rattle.answers.specs.Fields.{Reads};
 ghost use Rattle.answers.specs.Answered.{Unread, Refused};
 
-use crate::cases::{Case, read_case};
+use crate::cases::Case;
 use crate::output::Output;
 use bridge::report::Report;
 use std::io;
@@ -96,14 +96,20 @@ impl Buffers {
         self.put_slices(rt, out, case.room as usize)
     }
 
-    // The answer to a line.
-    pub fn put_answer(&mut self, rt: &impl Print, out: &mut Output, line: &[u8]) -> io::Result<()>
+    // The answer to a line, which is read into a case that is lent.
+    pub fn put_answer(
+        &mut self,
+        rt: &impl Print,
+        out: &mut Output,
+        case: &mut Case,
+        line: &[u8],
+    ) -> io::Result<()>
         ensures unread { IfOk result (λ u. Unread line.now out.old.held.items out.new.held.items) }
         ensures refused { (c : Case) → Reads line.now c → IfOk result (λ u. Refused c out.old.held.items out.new.held.items) }
     {
-        match read_case(line) {
+        match case.read(line) {
             None => out.put_piece(rt, b"bad line\n"),
-            Some(case) => self.put_case(rt, out, &case),
+            Some(()) => self.put_case(rt, out, case),
         }
     }
 }

@@ -1,6 +1,6 @@
 // A case as a line: PROGRAM QUESTION STEPS LEVELS ROOM OWN FIRST SECOND, one space apart, bytes in hexadecimal digits, numbers in decimal ones.
-ghost use Rattle.std.specs.Prelude.{◌≡◌, ◌+◌, ◌<◌, length, drop, IfSome, MatchOption, option_map};
-ghost use Rattle.answers.specs.Fields.{number_in, space_in, field_of, Reads};
+ghost use Rattle.std.specs.Prelude.{ℕ, [], ◌≡◌, suc, ◌+◌, ◌<◌, length, drop, IfSome, MatchOption, option_map};
+ghost use Rattle.answers.specs.Fields.{number_in, space_in, field_in, Reads};
 
 use arrayvec::ArrayVec;
 
@@ -49,34 +49,65 @@ fn behind(bytes: &[u8], at: usize) -> &[u8]
     &bytes[at + 1..]
 }
 
-// The field number n of a line, with one space between fields; none where it has fewer.
-fn field(line: &[u8], n: usize) -> Option<&[u8]>
-    ensures { option_map (λ f. f.now) result ≡ field_of n line.now }
-{
-    let mut rest = line;
-    for _ in 0..n {
-        let space = space_in(rest)?;
-        rest = behind(rest, space);
-    }
-    let end = space_in(rest).unwrap_or(rest.len());
-    Some(&rest[..end])
+// What of a line is still to be cut into fields, with one space between fields; nothing once the last one is cut off.
+#[derive(Drop)]
+struct Fields<'l> {
+    rest: Option<&'l [u8]>,
 }
 
-// A line's eight fields, and nothing behind the last.
-pub fn read_case(line: &[u8]) -> Option<Case>
-    ensures { MatchOption result ((c : Case) → Reads line.now c → ⊥) (λ c. Reads line.now c) }
-{
-    if field(line, 8).is_some() {
-        return None;
+impl<'l> Fields<'l> {
+    // The next field, if there is one. The one behind it comes next then.
+    fn next(&mut self) -> Option<&'l [u8]>
+        ensures field { option_map (λ f. f.now) result ≡ field_in 0 (option_map (λ r. r.now) self.old.rest) }
+        ensures later { (n : ℕ) → field_in n (option_map (λ r. r.now) self.new.rest) ≡ field_in (suc n) (option_map (λ r. r.now) self.old.rest) }
+    {
+        let rest = self.rest.take()?;
+        match space_in(rest) {
+            None => Some(rest),
+            Some(space) => {
+                self.rest = Some(behind(rest, space));
+                Some(&rest[..space])
+            }
+        }
     }
-    Some(Case {
-        program: lines::decode(field(line, 0)?)?,
-        question: lines::decode(field(line, 1)?)?,
-        steps: number(field(line, 2)?)?,
-        levels: number(field(line, 3)?)?,
-        room: number(field(line, 4)?)?,
-        own: number(field(line, 5)?)?,
-        first: number(field(line, 6)?)?,
-        second: number(field(line, 7)?)?,
-    })
+}
+
+impl Case {
+    // Nothing is read yet.
+    pub fn new() -> Self
+        ensures bytes { (result.program.items ≡ []) × (result.question.items ≡ []) }
+        ensures numbers { (result.steps ≡ 0) × (result.levels ≡ 0) × (result.room ≡ 0) × (result.own ≡ 0) × (result.first ≡ 0) × (result.second ≡ 0) }
+    {
+        Case {
+            program: ArrayVec::new(),
+            question: ArrayVec::new(),
+            steps: 0,
+            levels: 0,
+            room: 0,
+            own: 0,
+            first: 0,
+            second: 0,
+        }
+    }
+
+    // Reads a line's eight fields, and nothing behind the last. Where the line is no case, what is held then is not said.
+    pub fn read(&mut self, line: &[u8]) -> Option<()>
+        ensures { MatchOption result ((c : Case) → Reads line.now c → ⊥) (λ u. Reads line.now self.new) }
+    {
+        let mut fields = Fields { rest: Some(line) };
+        let program = fields.next()?;
+        lines::decode(program, &mut self.program)?;
+        let question = fields.next()?;
+        lines::decode(question, &mut self.question)?;
+        self.steps = number(fields.next()?)?;
+        self.levels = number(fields.next()?)?;
+        self.room = number(fields.next()?)?;
+        self.own = number(fields.next()?)?;
+        self.first = number(fields.next()?)?;
+        self.second = number(fields.next()?)?;
+        if fields.next().is_some() {
+            return None;
+        }
+        Some(())
+    }
 }

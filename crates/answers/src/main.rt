@@ -6,6 +6,7 @@ mod cases;
 mod output;
 
 use buffers::Buffers;
+use cases::Case;
 use input::Lines;
 use output::Output;
 use std::io;
@@ -15,13 +16,14 @@ use std::io;
 fn answer_all(
     rt: &impl Print,
     out: &mut Output,
-    lines: &mut Lines<60000>,
+    lines: &mut Lines,
+    case: &mut Case,
     buffers: &mut Buffers,
 ) -> io::Result<()> {
     for _ in 0..u64::MAX {
         match lines.next_line() {
             Ok(None) => break,
-            Ok(Some(Ok(line))) => buffers.put_answer(rt, out, line)?,
+            Ok(Some(Ok(len))) => buffers.put_answer(rt, out, case, lines.held(len))?,
             Ok(Some(Err(_))) => out.put_piece(rt, b"too long\n")?,
             Err(e) => {
                 out.flush(rt)?;
@@ -33,8 +35,11 @@ fn answer_all(
 }
 
 fn main(rt: HostRuntime) -> io::Result<()> {
-    let mut lines = Lines::<60000>::of(rt.stdin());
+    let mut chunk = [0; 65536];
+    let mut line = [0; 60000];
+    let mut lines = Lines::of(rt.stdin(), &mut chunk, &mut line);
     let mut out = Output::new();
+    let mut case = Case::new();
     let mut buffers = Buffers::new();
-    answer_all(&rt, &mut out, &mut lines, &mut buffers)
+    answer_all(&rt, &mut out, &mut lines, &mut case, &mut buffers)
 }

@@ -1,109 +1,111 @@
-// Standard input: its lines, one at a time, or its first bytes, into a buffer that the caller lends. A read that fails is an error.
+// Standard input: its lines, one at a time, through two slices that the caller lends, or its first bytes, into one. A read that fails is
+// an error.
 #![tactic(auto)]
 
-ghost use Rattle.std.specs.Prelude.{[], ◌≡◌, ◌-◌, ◌≤◌, length, IfOk, IfSome};
+ghost use Rattle.std.specs.Prelude.{◌≡◌, ◌≤◌, length, IfOk};
 
-use arrayvec::{ArrayVec, CapacityError};
+use arrayvec::CapacityError;
+use memchr::memchr;
 use std::io;
 use std::io::{Read, Stdin};
 
-// What was read at a time. The bytes from `at` up to `end` are still to come.
+// The lines of standard input. `chunk` is a lent slice that holds what was read at a time, of which the bytes from `at` up to `end` are
+// still to come; `line` is one that holds a line.
 #[derive(Drop)]
-struct Chunk {
-    bytes: [u8; 65536],
-    at: usize,
-    end: usize,
-    ghost within: { (at ≤ end) × (end ≤ 65536) },
+pub struct Lines<'c, 'l> {
+    pub stdin: Stdin,
+    pub chunk: &'c mut [u8],
+    pub at: usize,
+    pub end: usize,
+    pub line: &'l mut [u8],
+    ghost within: { (at ≤ end) × (end ≤ length chunk.now) },
 }
 
-impl Chunk {
+// What is held of a line, and one part more of it behind, where that fits.
+fn hold(
+    line: &mut [u8],
+    held: Result<usize, CapacityError>,
+    part: &[u8],
+) -> Result<usize, CapacityError>
+    requires { IfOk held (λ len. len ≤ length line.old) }
+    ensures { IfOk result (λ len. len ≤ length line.new) }
+{
+    let len = held?;
+    let end = len + part.len();
+    let Some(room) = line.get_mut(len..end) else {
+        return Err(CapacityError::new(()));
+    };
+    room.copy_from_slice(part);
+    Ok(end)
+}
+
+impl<'c, 'l> Lines<'c, 'l> {
+    ghost use Rattle.std.specs.Prelude.{◌≡◌, ◌≤◌, length, take, IfOk, IfSome};
+    ghost use Rattle.input.specs.Lent.{Lent};
+
+    // Nothing is read yet. Where a chunk is read already, they are made by their fields.
+    pub fn of(stdin: Stdin, chunk: &'c mut [u8], line: &'l mut [u8]) -> Lines<'c, 'l>
+        ensures same_slices { (result.chunk.ghost_name ≡ chunk.entry.ghost_name) × (result.line.ghost_name ≡ line.entry.ghost_name) }
+        ensures bytes { (result.chunk.now ≡ chunk.old) × (result.line.now ≡ line.old) }
+        ensures nothing_to_come { (result.at ≡ 0) × (result.end ≡ 0) }
+    {
+        Lines {
+            stdin,
+            chunk,
+            at: 0,
+            end: 0,
+            line,
+        }
+    }
+
     // Where all is passed, more are read; none: the input has ended.
-    fn fill(&mut self, stdin: &mut Stdin) -> io::Result<()> {
+    fn fill(&mut self) -> io::Result<()>
+        ensures { Lent self.old self.new }
+    {
         if self.at == self.end {
-            let n = stdin.read(&mut self.bytes)?;
+            let n = self.stdin.read(self.chunk)?;
             self.at = 0;
             self.end = n;
         }
         Ok(())
     }
 
-    // The bytes to come.
-    fn unread(&self) -> &[u8]
-        ensures { length result.now ≡ self.now.end - self.now.at }
+    // The next line, without its newline: how long it is, or that it is too long; or that there is none. One without a newline at the
+    // input's end is a line too, and of one that is too long the rest is passed over. A proved loop has to end, and nothing says that a
+    // line does: its turns have a bound that no run uses up.
+    pub fn next_line(&mut self) -> io::Result<Option<Result<usize, CapacityError>>>
+        ensures within { IfOk result (λ next. IfSome next (λ line. IfOk line (λ len. len ≤ length self.new.line.now))) }
+        ensures lent { Lent self.old self.new }
     {
-        &self.bytes[self.at..self.end]
-    }
-
-    // So many of them are passed.
-    fn pass(&mut self, n: usize)
-        requires { n ≤ self.old.end - self.old.at }
-    {
-        self.at += n;
-    }
-}
-
-// The lines of standard input, of which those of up to `LONGEST` bytes are held.
-#[derive(Drop)]
-pub struct Lines<const LONGEST: usize> {
-    stdin: Stdin,
-    chunk: Chunk,
-    line: ArrayVec<u8, LONGEST>,
-}
-
-impl<const LONGEST: usize> Lines<LONGEST> {
-    // Nothing is read yet.
-    pub fn of(stdin: Stdin) -> Self
-        ensures nothing_to_come { result.chunk.at ≡ result.chunk.end }
-        ensures no_line { result.line.items ≡ [] }
-    {
-        let chunk = Chunk {
-            bytes: [0; 65536],
-            at: 0,
-            end: 0,
-        };
-        Lines {
-            stdin,
-            chunk,
-            line: ArrayVec::new(),
-        }
-    }
-
-    // The next line, without its newline, or that it is too long; or that there is none. One without a newline at the input's end is a
-    // line too.
-    pub fn next_line(&mut self) -> io::Result<Option<Result<&[u8], CapacityError>>>
-        ensures { IfOk result (λ next. IfSome next (λ line. IfOk line (λ bytes. length bytes.now ≤ LONGEST))) }
-    {
-        let Some(held) = self.read_line()? else {
-            return Ok(None);
-        };
-        Ok(Some(held.and(Ok(self.line.as_slice()))))
-    }
-
-    // Reads a line: whether it is held. The rest of one that is too long is passed over. A proved loop has to end, and nothing says that
-    // a line does: its turns have a bound that no run uses up.
-    fn read_line(&mut self) -> io::Result<Option<Result<(), CapacityError>>> {
-        self.line.clear();
-        let mut held = Ok(());
+        let mut held = Ok(0);
         for _ in 0..u64::MAX {
-            self.chunk.fill(&mut self.stdin)?;
-            let part = self.chunk.unread();
-            match part.iter().position(|b| *b == b'\n') {
+            self.fill()?;
+            let part = &self.chunk[self.at..self.end];
+            match memchr(b'\n', part) {
                 Some(newline) => {
-                    let text = &part[..newline];
-                    held = held.and_then(|()| self.line.try_extend_from_slice(text));
-                    self.chunk.pass(newline + 1);
+                    held = hold(self.line, held, &part[..newline]);
+                    self.at += newline + 1;
                     return Ok(Some(held));
                 }
                 None if part.is_empty() => break,
                 None => {
-                    held = held.and_then(|()| self.line.try_extend_from_slice(part));
-                    let len = part.len();
-                    self.chunk.pass(len);
+                    held = hold(self.line, held, part);
+                    self.at = self.end;
                 }
             }
         }
-        let any = held.is_err() || !self.line.is_empty();
-        Ok(any.then_some(held))
+        match held {
+            Ok(0) => Ok(None),
+            _ => Ok(Some(held)),
+        }
+    }
+
+    // The line of so many bytes that was read last.
+    pub fn held(&self, len: usize) -> &[u8]
+        requires { len ≤ length self.now.line.now }
+        ensures { result.now ≡ take len self.now.line.now }
+    {
+        &self.line[..len]
     }
 }
 

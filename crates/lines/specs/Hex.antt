@@ -1,5 +1,5 @@
 -- Bytes as hexadecimal digits, lower case.
-use Rattle.std.specs.Prelude.{ℕ, ◌+◌, ◌-◌, ◌*◌, Option, Some, None, option_map, option_and_then, List, [], ◌∷◌, leb, ltb}
+use Rattle.std.specs.Prelude.{ℕ, ◌+◌, ◌-◌, ◌*◌, Option, Some, None, option_map, option_and_then, List, [], ◌∷◌, leb, ltb, Bool, true, ◌&&◌, is_some}
 use Rattle.theory.specs.Syntax.{pick}
 
 -- the value of a digit, 0 to 9 or a to f; none for a byte that is no digit
@@ -15,3 +15,8 @@ unfoldable pub pairs_of : List ℕ → Option (List ℕ)
 pairs_of [] = Some []
 pairs_of (h ∷ []) = None
 pairs_of (h ∷ l ∷ cs) = option_and_then (λ b. option_map (λ bs. b ∷ bs) (pairs_of cs)) (byte_of h l)
+
+-- whether each byte is a digit
+unfoldable pub all_digits : List ℕ → Bool
+all_digits [] = true
+all_digits (c ∷ cs) = is_some (digit_of c) && all_digits cs

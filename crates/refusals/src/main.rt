@@ -18,28 +18,46 @@ fn judge(rt: &impl Print, program: &[u8], question: &[u8]) -> io::Result<()> {
     }
 }
 
-// The program and the question of a line: two fields with one space between them. There is room for every field of 20,000 bytes.
-fn read_fields(line: &[u8]) -> Option<(ArrayVec<u8, 10000>, ArrayVec<u8, 10000>)> {
-    let mut fields = line.split(|b| *b == b' ');
-    let program = lines::decode(fields.next()?)?;
-    let question = lines::decode(fields.next()?)?;
-    fields.next().is_none().then_some((program, question))
+// The program and the question of a line. There is room for every field of 20,000 bytes.
+#[derive(Drop)]
+struct Fields {
+    program: ArrayVec<u8, 10000>,
+    question: ArrayVec<u8, 10000>,
+}
+
+impl Fields {
+    // Nothing is read yet.
+    fn new() -> Self {
+        Fields {
+            program: ArrayVec::new(),
+            question: ArrayVec::new(),
+        }
+    }
+
+    // Reads those of a line: two fields with one space between them.
+    fn read(&mut self, line: &[u8]) -> Option<()> {
+        let mut fields = line.split(|b| *b == b' ');
+        lines::decode(fields.next()?, &mut self.program)?;
+        lines::decode(fields.next()?, &mut self.question)?;
+        fields.next().is_none().then_some(())
+    }
 }
 
 // The answer to a line.
-fn answer_line(rt: &impl Print, line: &[u8]) -> io::Result<()> {
-    match read_fields(line) {
+fn answer_line(rt: &impl Print, line: &[u8], fields: &mut Fields) -> io::Result<()> {
+    match fields.read(line) {
         None => println!(rt; "bad line"),
-        Some((program, question)) => judge(rt, program.as_slice(), question.as_slice()),
+        Some(()) => judge(rt, fields.program.as_slice(), fields.question.as_slice()),
     }
 }
 
 // Every line of the input. A proved loop has to end, and nothing says that the input does: its turns have a bound that no run uses up.
-fn answer_all(rt: &impl Print, lines: &mut Lines<20000>) -> io::Result<()> {
+fn answer_all(rt: &impl Print, lines: &mut Lines) -> io::Result<()> {
+    let mut fields = Fields::new();
     for _ in 0..u64::MAX {
         match lines.next_line()? {
             None => break,
-            Some(Ok(line)) => answer_line(rt, line)?,
+            Some(Ok(len)) => answer_line(rt, lines.held(len), &mut fields)?,
             Some(Err(_)) => println!(rt; "too long")?,
         }
     }
@@ -54,7 +72,9 @@ fn long_question(rt: &impl Print) -> io::Result<()> {
 }
 
 fn main(rt: HostRuntime) -> io::Result<()> {
-    let mut lines = Lines::<20000>::of(rt.stdin());
+    let mut chunk = [0; 65536];
+    let mut line = [0; 20000];
+    let mut lines = Lines::of(rt.stdin(), &mut chunk, &mut line);
     answer_all(&rt, &mut lines)?;
     long_question(&rt)
 }
