@@ -17,7 +17,7 @@
  * A slice is a pointer and how many elements it has there. With 0 elements the pointer may be NULL: nothing is read or written
  * there (tests/c-host tries it).
  *
- * Stack, measured, not proved (tests/c-host): puffinest_rewrite took 65 kB at the most on every form tried, whatever the nesting and
+ * Stack, measured, not proved (tests/c-host): puffinest_rewrite took 62 kB at the most on every form tried, whatever the nesting and
  * the room; let the calling thread have 96 kB for it. puffinest_evaluate took 2.2 MB with 1,000 levels in the deepest form tried
  * (calls in the fourth argument of calls; g(x) -> g(x) took 0.65 MB), and 63 kB with one level; let the thread have
  * 96 kB, and 7 kB for each level allowed.
