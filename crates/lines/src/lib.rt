@@ -55,6 +55,7 @@ fn pairs<const CAP: usize>(digits: &[u8], bytes: &mut ArrayVec<u8, CAP>) -> Opti
         return None;
     }
     bytes.clear();
+    // All are digits and fit, so that no turn gives up.
     for [high, low] in pairs {
         let b = byte(*high, *low).unwrap_or(0);
         bytes.try_push(b).ok()?;

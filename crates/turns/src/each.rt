@@ -32,6 +32,7 @@ impl Round for EachStep {
         requires steps_le_allowance { (steps ≤ allowance) × (allowance ≤ 1000000) }
         ensures rounded { Rounded search.entry.lists.arities.now (next_by search.entry.lists) room steps allowance term.old other.old term.new other.new trail.new result }
         ensures kept { length trail.new.places.now ≡ length trail.old.places.now }
+        ensures lent { trail.new.places.ghost_name ≡ trail.old.places.ghost_name }
         ensures each { (term.new ≡ term.old) × (result.steps ≡ steps) }
     {
         let site = trail.site_on(search, term);

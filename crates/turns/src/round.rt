@@ -43,7 +43,8 @@ pub trait Round {
         requires on_path { OnPath search.lists.arities.now term.old trail.old.places.now trail.old.last }
         requires steps_le_allowance { (steps ≤ allowance) × (allowance ≤ 1000000) }
         ensures rounded { Rounded search.entry.lists.arities.now (next_by search.entry.lists) room steps allowance term.old other.old term.new other.new trail.new result }
-        ensures kept { length trail.new.places.now ≡ length trail.old.places.now };
+        ensures kept { length trail.new.places.now ≡ length trail.old.places.now }
+        ensures lent { trail.new.places.ghost_name ≡ trail.old.places.ghost_name };
 }
 
 // What follows a turn after so many steps: where nothing fits, the run is done; else where the steps are used up, it is out of them;
